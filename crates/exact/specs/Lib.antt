@@ -1,0 +1,5 @@
+pub mod Sums
+pub mod Fractions
+pub mod Worked
+pub mod Quotients
+pub mod Laws
