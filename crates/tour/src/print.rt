@@ -1,5 +1,10 @@
-use super::*;
+// What the steps of the tour print.
 use exact::Ends;
+use network::Refusal;
+use reading::SourceFigures;
+use std::io;
+use walking::RuleBook;
+use walking::WalkingTables;
 
 // The rows of all four curves, and the door flow.
 pub fn tables<T: WalkingTables>(rt: &LibcRuntime, tables: &T) -> io::Result<()> {
@@ -48,4 +53,16 @@ fn ends(rt: &LibcRuntime, name: &str, ends: Ends) -> io::Result<()> {
     let lower = ends.lower;
     let upper = ends.upper;
     println!(rt, "  {name}: {lower} to {upper} billionths")
+}
+
+// What a call answered: accepted, or a refusal with its number and place.
+pub fn answer(rt: &LibcRuntime, call: &str, answer: Result<(), Refusal>) -> io::Result<()> {
+    match answer {
+        Ok(()) => println!(rt, "  {call}: accepted"),
+        Err(refusal) => {
+            let number = refusal.number();
+            let place = refusal.place();
+            println!(rt, "  {call}: refused {number} at {place}")
+        }
+    }
 }

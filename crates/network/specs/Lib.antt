@@ -1,0 +1,9 @@
+pub mod Kinds
+pub mod Refusals
+pub mod Sentences
+pub mod Checks
+pub mod Lawful
+pub mod Elements
+pub mod Points
+pub mod Ready
+pub mod Tables

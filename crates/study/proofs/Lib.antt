@@ -1,0 +1,4 @@
+pub mod Reaches
+pub mod Following
+pub mod Answering
+pub mod Writing

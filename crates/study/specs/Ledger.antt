@@ -1,0 +1,111 @@
+-- The ledger: what a study holds, fed by the calls' arguments alone.
+use mathlib.Core.List.{List, [], _∷_, _++_}
+use mathlib.Core.Bool.{Bool, true, false, not}
+use Prim.Native.Nat.{ℕ, _+_, _-_}
+use lib.Dec.{leb}
+use lib.ListN.{length}
+use lib.ListN.{set as put-at}
+use Rattle.std.specs.Options.{isSome}
+use Rattle.std.specs.shelf.Lists.{removed}
+use Rattle.std.specs.declared.option.Option.{Option}
+use Rattle.std.specs.declared.option.Option.the-variants.{Some, None}
+use Rattle.network.specs.declared.Draft.{Draft}
+use Rattle.network.specs.declared.Element.{Element}
+use Rattle.network.specs.declared.CaseData.{CaseData}
+use Rattle.network.specs.Refusals.{Answer, accepted, refused}
+use Rattle.network.specs.Sentences.{Sentence, says, first-true, outside}
+use Rattle.network.specs.Checks.{element-of, element-sentences, case-sentences}
+use Rattle.network.specs.Elements.{aboard}
+use Rattle.network.specs.Points.{point-sentences}
+use Rattle.study.specs.declared.Stage.{Stage}
+use Rattle.study.specs.declared.Stage.the-variants.{Open, Closed}
+
+pub record Ledger : Type 0 where
+  pub stage : Stage
+  pub case : Option CaseData
+  pub elements : List Element
+
+abbrev pub ledger-with : Stage → Option CaseData → List Element → Ledger
+ledger-with s c es = record { stage = s; case = c; elements = es }
+
+-- it begins open, without a case and empty
+abbrev pub new-ledger : Ledger
+new-ledger = ledger-with Open None []
+
+-- a call, by its arguments
+pub data Request : Type 0 where
+  setting : CaseData → Request
+  entering : Draft → Request
+  altering : ℕ → Draft → Request
+  striking : ℕ → Request
+  closing : Request
+  reopening : Request
+
+-- what an accepted call hands back
+pub data Given : Type 0 where
+  nothing : Given
+
+abbrev pub Reply : Type 0
+Reply = Answer Given
+
+-- ---- when a call is refused
+
+-- the stage that a call needs
+abbrev pub needed : Request → Stage
+needed (setting c) = Open
+needed (entering d) = Open
+needed (altering n d) = Open
+needed (striking n) = Open
+needed closing = Open
+needed reopening = Closed
+
+abbrev pub same-stage : Stage → Stage → Bool
+same-stage Open Open = true
+same-stage Open Closed = false
+same-stage Closed Open = false
+same-stage Closed Closed = true
+
+-- no element has the number n
+abbrev pub number-sentence : List Element → ℕ → Sentence
+number-sentence es n = says (outside 1 (length es) n) 2 n
+
+-- the sentences of a call in the stage it needs
+abbrev pub later-sentences : Ledger → Request → List Sentence
+later-sentences l (setting c) = case-sentences c
+later-sentences l (entering d) = says (leb 128 (length (l .elements))) 3 0 ∷ element-sentences d (length (l .elements) + 1)
+later-sentences l (altering n d) = number-sentence (l .elements) n ∷ element-sentences d n
+later-sentences l (striking n) = number-sentence (l .elements) n ∷ []
+later-sentences l closing = says (not (isSome (l .case))) 10 0 ∷ says (outside 1 8000 (aboard (l .elements))) 11 0 ∷ point-sentences (l .elements)
+later-sentences l reopening = []
+
+abbrev pub sentences : Ledger → Request → List Sentence
+sentences l q = says (not (same-stage (l .stage) (needed q))) 1 0 ∷ later-sentences l q
+
+-- the calls that alter a study hand nothing back
+abbrev pub gives : Ledger → Request → Given
+gives l (setting c) = nothing
+gives l (entering d) = nothing
+gives l (altering n d) = nothing
+gives l (striking n) = nothing
+gives l closing = nothing
+gives l reopening = nothing
+
+unfoldable pub reply : Ledger → Request → Reply
+reply l q = first-true (sentences l q) (gives l q)
+
+-- ---- what an accepted call makes of the ledger; a refused one leaves it
+
+abbrev pub done : Ledger → Request → Ledger
+done l (setting c) = ledger-with (l .stage) (Some c) (l .elements)
+done l (entering d) = ledger-with (l .stage) (l .case) (l .elements ++ element-of d ∷ [])
+done l (altering n d) = ledger-with (l .stage) (l .case) (put-at (l .elements) (n - 1) (element-of d))
+done l (striking n) = ledger-with (l .stage) (l .case) (removed (l .elements) (n - 1))
+done l closing = ledger-with Closed (l .case) (l .elements)
+done l reopening = ledger-with Open (l .case) (l .elements)
+
+abbrev pub by-reply : Reply → Ledger → Ledger → Ledger
+by-reply (accepted g) before after = after
+by-reply (refused n p) before after = before
+
+unfoldable pub next : Ledger → Request → Ledger
+next l q = by-reply (reply l q) l (done l q)
