@@ -7,3 +7,4 @@ pub use curve_readings::read_column;
 pub use curve_readings::read_falling;
 pub use sources::SourceCorridor;
 pub use sources::SourceFigures;
+pub use sources::flow_through;

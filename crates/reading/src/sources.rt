@@ -79,7 +79,7 @@ impl SourceCorridor {
 }
 
 // A flow in persons per second from a specific flow in persons per metre and second.
-fn flow_through(width: u32, specific_flow: Ends) -> Ends
+pub fn flow_through(width: u32, specific_flow: Ends) -> Ends
     requires lower { ⌜ «specific_flow» .lower ≤ 2000000000 ⌝ }
     requires upper { ⌜ «specific_flow» .upper ≤ 2000000000 ⌝ }
     ensures { λ r. ⌜ ((x : Fraction) → r ≡ ends (through width (around «specific_flow» x))) ⌝ }

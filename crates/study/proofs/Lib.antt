@@ -1,4 +1,4 @@
-pub mod Reaches
 pub mod Following
-pub mod Answering
 pub mod Writing
+pub mod Performing
+pub mod Assessments

@@ -10,7 +10,7 @@ use Rattle.network.specs.Refusals.{accepted}
 use Rattle.network.specs.Sentences.{first-true}
 use Rattle.network.specs.Checks.{element-of, element-sentences}
 use Rattle.network.proofs.First.{given-is}
-use Rattle.study.specs.Ledger.{Ledger, ledger-with, entering, altering, striking, number-sentence, done}
+use Rattle.ledger.specs.Ledger.{Ledger, ledger-with, entering, altering, striking, number-sentence, done}
 
 module _ (l : Ledger) (es : List Element) where
   -- an element that passed, under the number k

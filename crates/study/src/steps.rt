@@ -7,9 +7,9 @@ ghost use Rattle.std.specs.Vec.{made};
 ghost use Rattle.network.specs.Refusals.{told};
 ghost use Rattle.network.specs.Sentences.{first-true};
 ghost use Rattle.network.specs.Tables.{listed};
-ghost use Rattle.study.specs.Ledger.{setting, entering, altering, striking, closing, number-sentence};
-ghost use Rattle.study.specs.Studies.{Follows-ledger};
-ghost use Rattle.study.specs.declared.Stage.the-variants.{Open};
+ghost use Rattle.ledger.specs.Ledger.{setting, entering, altering, striking, closing, number-sentence};
+ghost use Rattle.study.specs.Studies.{Follows-ledger, told-done};
+ghost use Rattle.ledger.specs.declared.Stage.the-variants.{Open};
 use super::*;
 use network::check_case;
 use network::check_element;
@@ -17,7 +17,7 @@ use network::check_element;
 impl Study {
     pub(crate) fn store_case(&mut self, data: CaseData) -> Result<(), Refusal>
         requires open { ⌜ now self .stage ≡ Open ⌝ }
-        ensures { λ r. ⌜ Follows-ledger (now (self .entry)) (setting «data») r (now (self .exit)) ⌝ }
+        ensures { λ r. ⌜ Follows-ledger (now (self .entry)) (setting «data») (told-done r) (now (self .exit)) ⌝ }
     {
         check_case(data)?;
         self.case = Some(data);
@@ -26,7 +26,7 @@ impl Study {
 
     pub(crate) fn append(&mut self, draft: Draft) -> Result<(), Refusal>
         requires open { ⌜ now self .stage ≡ Open ⌝ }
-        ensures { λ r. ⌜ Follows-ledger (now (self .entry)) (entering draft) r (now (self .exit)) ⌝ }
+        ensures { λ r. ⌜ Follows-ledger (now (self .entry)) (entering draft) (told-done r) (now (self .exit)) ⌝ }
     {
         let count = self.elements.count();
         if count >= 128 {
@@ -50,7 +50,7 @@ impl Study {
 
     pub(crate) fn replace(&mut self, number: u32, draft: Draft) -> Result<(), Refusal>
         requires open { ⌜ now self .stage ≡ Open ⌝ }
-        ensures { λ r. ⌜ Follows-ledger (now (self .entry)) (altering number draft) r (now (self .exit)) ⌝ }
+        ensures { λ r. ⌜ Follows-ledger (now (self .entry)) (altering number draft) (told-done r) (now (self .exit)) ⌝ }
     {
         let index = self.index_of(number)?;
         let element = check_element(draft, number)?;
@@ -60,7 +60,7 @@ impl Study {
 
     pub(crate) fn remove(&mut self, number: u32) -> Result<(), Refusal>
         requires open { ⌜ now self .stage ≡ Open ⌝ }
-        ensures { λ r. ⌜ Follows-ledger (now (self .entry)) (striking number) r (now (self .exit)) ⌝ }
+        ensures { λ r. ⌜ Follows-ledger (now (self .entry)) (striking number) (told-done r) (now (self .exit)) ⌝ }
     {
         let index = self.index_of(number)?;
         self.elements.remove(index);
@@ -69,7 +69,7 @@ impl Study {
 
     pub(crate) fn settle(&mut self) -> Result<(), Refusal>
         requires open { ⌜ now self .stage ≡ Open ⌝ }
-        ensures { λ r. ⌜ Follows-ledger (now (self .entry)) closing r (now (self .exit)) ⌝ }
+        ensures { λ r. ⌜ Follows-ledger (now (self .entry)) closing (told-done r) (now (self .exit)) ⌝ }
     {
         if self.case.is_none() {
             return Err(Refusal::CaseNotSet);

@@ -2,7 +2,7 @@
 ghost use mathlib.Core.Path.{_≡_};
 ghost use lib.ListN.{length};
 ghost use Rattle.network.specs.Elements.{numbered};
-ghost use Rattle.study.specs.Reach.{Lawful-ledger};
+ghost use Rattle.ledger.specs.Reach.{Lawful-ledger};
 ghost use Rattle.study.specs.Studies.{ledger-of};
 use super::*;
 

@@ -1,10 +1,10 @@
 use crate::samples::*;
+use ledger::Stage;
+use ledger::StagePartialEq;
 use network::CaseData;
 use network::CaseDataPartialEq;
 use network::Draft;
 use std::test::*;
-use study::Stage;
-use study::StagePartialEq;
 use study::Study;
 
 const ACCEPTED: (u8, u32) = (0, 0);

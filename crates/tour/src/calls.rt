@@ -23,14 +23,13 @@ const NARROW: Draft = Draft {
     persons: 0,
 };
 
-pub fn run(rt: &LibcRuntime) -> io::Result<()> {
+pub fn run(rt: &LibcRuntime, study: &mut Study) -> io::Result<()> {
     println!(rt, "A study of the second zone of the circular's example")?;
-    let mut study = Study::new();
-    enter_zone(rt, &mut study)?;
+    enter_zone(rt, study)?;
     print::answer(rt, "enter a corridor 450 mm wide", study.enter(NARROW))?;
     print::answer(rt, "close without case data", study.close())?;
     print::answer(rt, "set the case data of a day case", study.set(DAY))?;
-    settle_zone(rt, &mut study)?;
+    settle_zone(rt, study)?;
     println!(rt, "  it is closed with {} elements", study.count())
 }
 

@@ -4,18 +4,19 @@ use native.Mathlib.Omega.{arith}
 use borrow.Author.Needs.{needs}
 use lib.ListN.{length}
 use Rattle.std.proofs.shelf.Results.{err-from-errBy}
+use Rattle.network.specs.declared.Refusal.the-variants.{TableFull}
 use Rattle.network.specs.Tables.{listed}
 use Rattle.study.specs.Studies.{ledger-of}
-use Rattle.study.specs.Ledger.{entering}
+use Rattle.ledger.specs.Ledger.{entering}
 use Rattle.study.proofs.Following.{refuses, accepts, stays-lawful}
-use Rattle.study.proofs.Answering.{entering-full, entering-answer}
+use Rattle.ledger.proofs.Answering.{entering-full, entering-answer}
 use Rattle.study.proofs.Writing.{entered}
 use Rattle.study.proofs.Study.append.Needs as need
 
 pub returns-then-count-ge128 : need.returns-then-count-ge128
 returns-then-count-ge128 c =
     let s = c .args .self .now in
-    refuses s (entering (c .args .draft)) _ (entering-full (ledger-of s) (c .pre .open) (c .args .draft) (omega arith))
+    refuses s (entering (c .args .draft)) TableFull (entering-full (ledger-of s) (c .pre .open) (c .args .draft) (omega arith))
 
 pub returns-in-Break-element : need.returns-in-Break-element
 returns-in-Break-element c =

@@ -1,11 +1,11 @@
 use mathlib.Core.Path.{_≡_, sym, ap, subst}
 use Rattle.std.specs.declared.option.Option.the-variants.{None}
 use Rattle.network.specs.Tables.{listed}
-use Rattle.study.specs.declared.Stage.the-variants.{Open}
-use Rattle.study.specs.Ledger.{ledger-with}
-use Rattle.study.specs.Reach.{Lawful-ledger}
-use Rattle.study.specs.Runs.{Run, start}
-use Rattle.study.proofs.Reaches.{new-lawful}
+use Rattle.ledger.specs.declared.Stage.the-variants.{Open}
+use Rattle.ledger.specs.Ledger.{ledger-with}
+use Rattle.ledger.specs.Reach.{Lawful-ledger}
+use Rattle.ledger.specs.Runs.{Run, start}
+use Rattle.ledger.proofs.Reaches.{new-lawful}
 use Rattle.study.proofs.Study.new.Needs as need
 
 pub ghost-result : need.ghost-result

@@ -1,9 +1,9 @@
 use Rattle.std.proofs.shelf.Results.{err-from-errBy}
 use Rattle.network.specs.Tables.{listed}
 use Rattle.study.specs.Studies.{ledger-of}
-use Rattle.study.specs.Ledger.{striking}
+use Rattle.ledger.specs.Ledger.{striking}
 use Rattle.study.proofs.Following.{refuses, accepts, stays-lawful}
-use Rattle.study.proofs.Answering.{striking-answer}
+use Rattle.ledger.proofs.Answering.{striking-answer}
 use Rattle.study.proofs.Writing.{struck}
 use Rattle.study.proofs.Study.remove.Needs as need
 

@@ -2,9 +2,9 @@ use Rattle.std.proofs.shelf.Results.{err-from-errBy}
 use Rattle.network.specs.Refusals.{refused, number-of, place-of}
 use Rattle.network.specs.Tables.{listed}
 use Rattle.study.specs.Studies.{ledger-of}
-use Rattle.study.specs.Ledger.{altering}
+use Rattle.ledger.specs.Ledger.{altering}
 use Rattle.study.proofs.Following.{refuses, accepts, stays-lawful}
-use Rattle.study.proofs.Answering.{altering-absent, altering-answer}
+use Rattle.ledger.proofs.Answering.{altering-absent, altering-answer}
 use Rattle.study.proofs.Writing.{altered}
 use Rattle.study.proofs.Study.replace.Needs as need
 

@@ -1,25 +1,26 @@
 use mathlib.Core.Path.{refl}
 use native.Mathlib.Omega.{arith}
 use Rattle.std.proofs.shelf.Results.{err-from-errBy}
+use Rattle.network.specs.declared.Refusal.the-variants.{CaseNotSet, AboardOutOfRange}
 use Rattle.network.specs.Refusals.{accepted, refused, number-of, place-of}
 use Rattle.network.specs.Elements.{aboard}
 use Rattle.network.proofs.Rules.{outside-by, not-outside}
 use Rattle.study.specs.Studies.{ledger-of}
-use Rattle.study.specs.Ledger.{closing}
+use Rattle.ledger.specs.Ledger.{closing}
 use Rattle.study.proofs.Following.{refuses, accepts, stays-lawful}
-use Rattle.study.proofs.Answering.{closing-unset, closing-count, closing-points}
+use Rattle.ledger.proofs.Answering.{closing-unset, closing-count, closing-points}
 use Rattle.study.proofs.Study.settle.Needs as need
 
 pub returns-then-is-none : need.returns-then-is-none
 returns-then-is-none c =
     let s = c .args .self .now in
-    refuses s closing _ (closing-unset (ledger-of s) (c .pre .open) (c .if-is-none .ensures tt))
+    refuses s closing CaseNotSet (closing-unset (ledger-of s) (c .pre .open) (c .if-is-none .ensures tt))
 
 pub returns-then-aboard-lt1 : need.returns-then-aboard-lt1
 returns-then-aboard-lt1 c =
     let s = c .args .self .now in
     let crowded = outside-by 1 8000 (c .aboard-aboard .result) (aboard (ledger-of s .elements)) (c .aboard-aboard .ensures) (c .then-aboard-lt1 .either) in
-    refuses s closing _ (closing-count (ledger-of s) (c .pre .open) (c .if-is-none .ensures tt) crowded)
+    refuses s closing AboardOutOfRange (closing-count (ledger-of s) (c .pre .open) (c .if-is-none .ensures tt) crowded)
 
 pub returns-in-Break-check-points : need.returns-in-Break-check-points
 returns-in-Break-check-points c =

@@ -1,9 +1,9 @@
 use mathlib.Core.Path.{refl}
 use Rattle.std.proofs.shelf.Results.{err-from-errBy}
 use Rattle.study.specs.Studies.{ledger-of}
-use Rattle.study.specs.Ledger.{setting}
+use Rattle.ledger.specs.Ledger.{setting}
 use Rattle.study.proofs.Following.{refuses, accepts, stays-lawful}
-use Rattle.study.proofs.Answering.{setting-answer}
+use Rattle.ledger.proofs.Answering.{setting-answer}
 use Rattle.study.proofs.Study.store_case.Needs as need
 
 pub returns-in-Break-check-case : need.returns-in-Break-check-case

@@ -1,0 +1,4 @@
+pub mod Shown
+pub mod Leavings
+pub mod PointSums
+pub mod ShareParts

@@ -1,0 +1,5 @@
+pub mod Answering
+pub mod Reaches
+pub mod SheetFacts
+pub mod Soundness
+pub mod Standing

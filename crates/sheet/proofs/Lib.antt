@@ -1,0 +1,9 @@
+pub mod Indexed
+pub mod Ranks
+pub mod ShareLaws
+pub mod Stages
+pub mod Crowds
+pub mod SourceLines
+pub mod LineLaws
+pub mod Durations
+pub mod Only

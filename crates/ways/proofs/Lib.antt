@@ -1,0 +1,12 @@
+pub mod Times
+pub mod Members
+pub mod Listed
+pub mod Longest
+pub mod Arrays
+pub mod Joined
+pub mod Sized
+pub mod Found
+pub mod Firsts
+pub mod Agreed
+pub mod Bounds
+pub mod Sample
