@@ -1,3 +1,5 @@
+#![tactic(auto)]
+
 // The two main vertical zones that the circular works through, held to the figures that it prints, and their findings.
 #[cfg(test)]
 mod findings;

@@ -1,3 +1,5 @@
+#![tactic(auto)]
+
 ghost use Rattle.curves.specs.Laws.{DensityReadsAmid, AcrossEncloses, SpeedFalls, SpeedFallsSlowly, FallingEncloses, SpeedsInRange, ColumnsInRange};
 
 // A column of a curve that is read at its entries.

@@ -2,7 +2,7 @@ ghost use Rattle.std.specs.Prelude.{◌≡◌, ◌*◌, ◌/◌, ◌%◌, ◌<�
 ghost use Rattle.exact.specs.Sums.{count_where};
 ghost use Rattle.network.specs.Elements.{el};
 ghost use Rattle.network.specs.Ready.{Ready};
-ghost use Rattle.sheet.specs.Shares.{width_out as width_leaving, before, left-over, share as share_of};
+ghost use Rattle.sheet.specs.Shares.{width_out as width_leaving, before, left_over as persons_left_over, share as share_of};
 
 use super::Sharing;
 use network::Element;
@@ -49,7 +49,7 @@ impl Sharing {
     pub fn left_over(&self, elements: &[Element]) -> u32
         requires ready { Ready elements.now }
         requires width { self.now.width ≡ width_leaving elements.now self.now.point }
-        ensures { result ≡ left-over elements.now self.now.point self.now.persons }
+        ensures { result ≡ persons_left_over elements.now self.now.point self.now.persons }
     {
         let mut given = 0;
         for element in elements {
@@ -84,7 +84,7 @@ impl Sharing {
     pub fn share(&self, elements: &[Element], left_over: u32, i: usize) -> u32
         requires ready { Ready elements.now }
         requires width { self.now.width ≡ width_leaving elements.now self.now.point }
-        requires left { left_over ≡ left-over elements.now self.now.point self.now.persons }
+        requires left { left_over ≡ persons_left_over elements.now self.now.point self.now.persons }
         requires within { i < length elements.now }
         requires leaving { (el elements.now i).from ≡ self.now.point }
         ensures value { result ≡ share_of elements.now self.now.point self.now.persons i }

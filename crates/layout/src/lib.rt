@@ -1,3 +1,5 @@
+#![tactic(auto)]
+
 ghost use Rattle.layout.specs.Laws.{DecodingUndoesEncoding, EncodingUndoesDecoding};
 
 use network::{CaseData, Draft};

@@ -1,3 +1,5 @@
+#![tactic(auto)]
+
 mod laws;
 
 pub use laws::every_run_is_sound;

@@ -1,3 +1,5 @@
+#![tactic(auto)]
+
 ghost use Rattle.margin.specs.Network.{FlowsHold, PointsHold, PointWidens, FlightNear, FlowsNear, SpecificNear};
 
 // What working a network from point to point does to the two ends of its flows; it computes nothing.

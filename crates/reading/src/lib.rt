@@ -1,3 +1,5 @@
+#![tactic(auto)]
+
 mod curve_readings;
 mod parts;
 mod sources;

@@ -1,3 +1,5 @@
+#![tactic(auto)]
+
 ghost use Rattle.std.specs.Prelude.{◌≡◌, ◌+◌, ◌<◌};
 ghost use Rattle.ways.specs.Ends.{greatest_time, lower_end, upper_end, governing_by, governing};
 ghost use Rattle.routes.specs.Worksheets.{SomeWorkedOut, OfWorksheet};

@@ -1,3 +1,5 @@
+#![tactic(auto)]
+
 use exact::Ends;
 
 mod laws;

@@ -1,3 +1,5 @@
+#![tactic(auto)]
+
 ghost use Rattle.network.specs.Tables.{listed};
 ghost use Rattle.ledger.specs.Ledger.{ledger_with};
 ghost use Rattle.ledger.specs.Reach.{LawfulLedger};

@@ -1,3 +1,5 @@
+#![tactic(auto)]
+
 // Shows, step by step, what the library does so far.
 use std::io;
 use study::Study;

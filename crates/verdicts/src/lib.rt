@@ -1,3 +1,5 @@
+#![tactic(auto)]
+
 ghost use Rattle.std.specs.Prelude.{◌≡◌, IfSome, if◌then◌else◌, Some, None};
 ghost use Rattle.verdicts.specs.Laws.{MeetsIsTrue, ExceedsIsTrue, UndecidedIsTrue};
 ghost use Rattle.network.specs.Sentences.{outside};

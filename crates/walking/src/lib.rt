@@ -1,3 +1,5 @@
+#![tactic(auto)]
+
 mod circular_book;
 mod interfaces;
 mod slower_walk;

@@ -1,3 +1,5 @@
+#![tactic(auto)]
+
 // The two main vertical zones that the circular works through as an example, as elements in order of entry.
 use network::Draft;
 

@@ -21,8 +21,8 @@ find-requires c =
       walkable = walkable w.0 es held w.1 (length es - 0) (omega arith) c.args.end;
     }
 
-pub first-most-requires : goal.first-most-requires
-first-most-requires c =
+pub first_most-requires : goal.first_most-requires
+first_most-requires c =
     let w = c.requires.worked in
     let es = c.args.elements.now in
     let held = c.args.lines.now in
@@ -40,16 +40,16 @@ returns c =
     let k = length es - 0 in
     let back = c.find.result.back in
     let onward = c.find.result.onward in
-    let g = c.first-most.result.index in
-    let x = c.first-most.result.rank in
+    let g = c.first_most.result.index in
+    let x = c.first_most.result.rank in
     let searched : Searched (net_of e es (take k held)) back onward g x = record {
       walkable = walkable w.0 es held w.1 k (omega arith) e;
       back = c.find.ensures.back;
       onward = c.find.ensures.onward;
-      most = subst (λ (d : End). FirstMost (ranks (net_of d es (take k held)) back onward) (length es) g x) c.find.ensures.end c.first-most.ensures.most;
+      most = subst (λ (d : End). FirstMost (ranks (net_of d es (take k held)) back onward) (length es) g x) c.find.ensures.end c.first_most.ensures.most;
     } in
     record {
       within = let few = w.1.ready.few in let l = searched.most.within in omega arith;
-      rank = λ t v. rank_shown e es (sheet t es) (take k held) (shows t es held v k (omega arith)) v.ready back onward g x c.first-most.ensures.some searched;
+      rank = λ t v. rank_shown e es (sheet t es) (take k held) (shows t es held v k (omega arith)) v.ready back onward g x c.first_most.ensures.some searched;
       index = λ t v. governing_shown e es (sheet t es) (take k held) (shows t es held v k (omega arith)) v.ready back onward g x searched;
     }

@@ -15,7 +15,7 @@ returns c = record {
   rounded = rounded_encloses;
   total = total_encloses;
   order = le_trans;
-  sums-add = where_plus;
-  sums-scale = λ n t m f. where_times n t f f m;
-  sums-compare = where_mono;
+  sums_add = where_plus;
+  sums_scale = λ n t m f. where_times n t f f m;
+  sums_compare = where_mono;
 }

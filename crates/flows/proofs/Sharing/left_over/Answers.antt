@@ -19,8 +19,8 @@ part-given-requires c = (lawful_at c.requires.ready c.loop-element.element-index
 part-here : (c : goal.After-part-given) → c.part-given.result ≡ part c.args.elements.now c.args.self.now.point c.args.self.now.persons c.loop-element.element-index
 part-here c = part_by c.args.elements.now c.args.self.now.point c.args.self.now.persons c.loop-element.element-index c.args.self.now.width _ c.requires.width c.part-given.ensures
 
-pub overflow-add-given : goal.overflow-add-given
-overflow-add-given c =
+pub overflow_add-given : goal.overflow_add-given
+overflow_add-given c =
     let es = c.args.elements.now in
     let p = c.args.self.now.point in
     let n = c.args.self.now.persons in
@@ -44,8 +44,8 @@ all-given c =
     let done : c.loop-element.element-index ≡ length c.args.elements.now = omega arith in
     c.loop-element.invariant ∙ ap (λ k. sum_where k (leaves c.args.elements.now c.args.self.now.point) (part c.args.elements.now c.args.self.now.point c.args.self.now.persons)) done
 
-pub overflow-sub-result : goal.overflow-sub-result
-overflow-sub-result c =
+pub overflow_sub-result : goal.overflow_sub-result
+overflow_sub-result c =
     let some : 0 < width_out c.args.elements.now c.args.self.now.point = omega (arith, c.requires.width, c.args.self.now.some) in
     omega (arith, all-given c, parts_le c.args.elements.now c.args.self.now.point c.args.self.now.persons some)
 

@@ -4,12 +4,12 @@ use Rattle.flows.proofs.leaving.speed_of.Goals as goal
 
 pub returns-in-Corridor : goal.returns-in-Corridor
 returns-in-Corridor g c =
-    speed_by (g.T.WalkingTables.meaning c.args.tables.now) c.args.kind Corridor c.args.specific-flow c.read_falling.result c.in-Corridor.is c.read_falling.ensures
+    speed_by (g.T.WalkingTables.meaning c.args.tables.now) c.args.kind Corridor c.args.specific_flow c.read_falling.result c.in-Corridor.is c.read_falling.ensures
 
 pub returns-in-StairDown : goal.returns-in-StairDown
 returns-in-StairDown g c =
-    speed_by (g.T.WalkingTables.meaning c.args.tables.now) c.args.kind StairDown c.args.specific-flow c.read-falling-in-StairDown.result c.in-StairDown.is c.read-falling-in-StairDown.ensures
+    speed_by (g.T.WalkingTables.meaning c.args.tables.now) c.args.kind StairDown c.args.specific_flow c.read_falling-in-StairDown.result c.in-StairDown.is c.read_falling-in-StairDown.ensures
 
 pub returns-in-StairUp : goal.returns-in-StairUp
 returns-in-StairUp g c =
-    speed_by (g.T.WalkingTables.meaning c.args.tables.now) c.args.kind StairUp c.args.specific-flow c.read-falling-in-StairUp.result c.in-StairUp.is c.read-falling-in-StairUp.ensures
+    speed_by (g.T.WalkingTables.meaning c.args.tables.now) c.args.kind StairUp c.args.specific_flow c.read_falling-in-StairUp.result c.in-StairUp.is c.read_falling-in-StairUp.ensures

@@ -5,4 +5,4 @@ use Rattle.flows.proofs.Shown.{with_persons}
 use Rattle.flows.proofs.lines.passing_time.Goals as goal
 
 pub returns : goal.returns
-returns c x = c.time-between.ensures x ∙ with_persons c.args.persons (falling (over (c.args.persons * 10 ^ 15)) (around c.args.flow x)) c.if-persons-eq0.false
+returns c x = c.time_between.ensures x ∙ with_persons c.args.persons (falling (over (c.args.persons * 10 ^ 15)) (around c.args.flow x)) c.if-persons-eq0.false

@@ -9,22 +9,22 @@ use Rattle.flows.proofs.points.arrivals_at.Goals as goal
 pub loop-element-init : goal.loop-element-init
 loop-element-init c = (refl, sym (sum_none _), sym (sum_none _), sym (sum_none _))
 
-pub overflow-add-lower : goal.overflow-add-lower
-overflow-add-lower c =
+pub overflow_add-lower : goal.overflow_add-lower
+overflow_add-lower c =
     let i = c.loop-element.i in
     let few : i < length c.args.elements.now = omega arith in
     let sum = where_small (comes c.args.elements.now c.args.point) (λ k. line_lower (line_at c.args.sheet.now k)) 20000000000 128 i (λ k l _. (c.requires.small k (omega arith)).lower) (omega arith) in
     omega (arith, (c.requires.small i few).lower)
 
-pub overflow-add-upper : goal.overflow-add-upper
-overflow-add-upper c =
+pub overflow_add-upper : goal.overflow_add-upper
+overflow_add-upper c =
     let i = c.loop-element.i in
     let few : i < length c.args.elements.now = omega arith in
     let sum = where_small (comes c.args.elements.now c.args.point) (λ k. line_upper (line_at c.args.sheet.now k)) 20000000000 128 i (λ k l _. (c.requires.small k (omega arith)).upper) (omega arith) in
     omega (arith, (c.requires.small i few).upper)
 
-pub overflow-add-persons : goal.overflow-add-persons
-overflow-add-persons c =
+pub overflow_add-persons : goal.overflow_add-persons
+overflow_add-persons c =
     let i = c.loop-element.i in
     let few : i < length c.args.elements.now = omega arith in
     let sum = where_small (comes c.args.elements.now c.args.point) (λ k. line_persons (line_at c.args.sheet.now k)) 8000 128 i (λ k l _. (c.requires.small k (omega arith)).persons) (omega arith) in

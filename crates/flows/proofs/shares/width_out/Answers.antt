@@ -10,8 +10,8 @@ use Rattle.flows.proofs.shares.width_out.Goals as goal
 pub loop-element-init : goal.loop-element-init
 loop-element-init c = sym (sum_none _)
 
-pub overflow-add-width : goal.overflow-add-width
-overflow-add-width c =
+pub overflow_add-width : goal.overflow_add-width
+overflow_add-width c =
     let es = c.args.elements.now in
     let i = c.loop-element.element-index in
     let sum = where_small (leaves es c.args.point) (λ k. (el es k).width) 10000 128 i (λ k l _. (lawful_at c.requires k (omega arith)).narrow) (omega (arith, c.requires.few)) in

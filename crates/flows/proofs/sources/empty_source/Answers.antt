@@ -7,4 +7,4 @@ pub returns : goal.returns
 returns g c =
     let e = c.args.element.now in
     let l = empty_source (g.T.WalkingTables.meaning c.args.tables.now) e in
-    shown_by e l c.line-of.result _ c.first_speed.result c.line-of.ensures refl c.first_speed.ensures
+    shown_by e l c.line_of.result _ c.first_speed.result c.line_of.ensures refl c.first_speed.ensures

@@ -8,4 +8,4 @@ returns g c =
     let e = c.args.element.now in
     let l = full_source (g.T.WalkingTables.meaning c.args.tables.now) Corridor e in
     let f = c.figures-figures in
-    shown_by e l c.line-of.result f.result.flow f.result.speed c.line-of.ensures f.ensures.flow.value f.ensures.speed.value
+    shown_by e l c.line_of.result f.result.flow f.result.speed c.line_of.ensures f.ensures.flow.value f.ensures.speed.value

@@ -13,6 +13,6 @@ returns g c =
     let e = c.args.element.now in
     let t = g.T.WalkingTables.meaning c.args.tables.now in
     let w = exactly (t.door * mega) in
-    let s : c.exactly.result ≡ ends w = c.exactly.ensures ∙ ap (λ d. ends (exactly (d * mega))) c.door-flow.ensures in
-    let f = c.flow-through-flow.ensures w.exact ∙ ap (λ (q : Ends). ends (through e.width (around q w.exact))) s in
-    shown_by e (full_source t Door e) c.line-of.result c.flow-through-flow.result _ c.line-of.ensures f refl
+    let s : c.exactly.result ≡ ends w = c.exactly.ensures ∙ ap (λ d. ends (exactly (d * mega))) c.door_flow.ensures in
+    let f = c.flow_through-flow.ensures w.exact ∙ ap (λ (q : Ends). ends (through e.width (around q w.exact))) s in
+    shown_by e (full_source t Door e) c.line_of.result c.flow_through-flow.result _ c.line_of.ensures f refl

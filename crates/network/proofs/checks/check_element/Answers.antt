@@ -3,11 +3,11 @@ use Rattle.network.specs.declared.Refusal.TheVariants.{UnknownKind}
 use Rattle.network.proofs.Drafts.{unknown_kind, known_kind, exactly_lawful}
 use Rattle.network.proofs.checks.check_element.Goals as goal
 
-pub returns-in-default : goal.returns-in-default
-returns-in-default c =
+pub returns-in_default : goal.returns-in_default
+returns-in_default c =
     let d = c.args.draft in
     let n = c.args.number in
-    let told-so = unknown_kind d n c.in-default.ensures.kind in
+    let told-so = unknown_kind d n c.in_default.ensures.kind in
     record { answered = told-so; lawful = exactly_lawful d n (Err (UnknownKind n)) told-so }
 
 pub returns : goal.returns

@@ -14,23 +14,23 @@ returns-then-count-ge128 c =
     let s = c.args.self.now in
     refuses s (entering c.args.draft) TableFull (entering_full (ledger_of s) c.requires.open c.args.draft (omega arith))
 
-pub returns-in-err-element : goal.returns-in-err-element
-returns-in-err-element c =
+pub returns-in_err-element : goal.returns-in_err-element
+returns-in_err-element c =
     let s = c.args.self.now in
     let p = err_from_is_err_and c.from-residual.result c.from-residual.ensures.1 in
-    let e = entering_answer (ledger_of s) c.requires.open c.args.draft c.count-count.result c.count-count.ensures (omega arith) _ c.in-err-element.ensures.answered in
+    let e = entering_answer (ledger_of s) c.requires.open c.args.draft c.count-count.result c.count-count.ensures (omega arith) _ c.in_err-element.ensures.answered in
     rw (p.1, p.2) (refuses s (entering c.args.draft) _ e)
 
-pub invariant-of-self : goal.invariant-of-self
-invariant-of-self c =
+pub invariant_of-self : goal.invariant_of-self
+invariant_of-self c =
     let s = c.args.self.now in
     let d = c.args.draft in
-    let e = entering_answer (ledger_of s) c.requires.open d c.count-count.result c.count-count.ensures (omega arith) _ c.in-ok-element.ensures.answered in
-    (stays_lawful s (entering d) e _ (entered (ledger_of s) (listed c.push.new.self) d (c.count-count.result + 1) _ c.in-ok-element.ensures.answered c.push.ensures), tt)
+    let e = entering_answer (ledger_of s) c.requires.open d c.count-count.result c.count-count.ensures (omega arith) _ c.in_ok-element.ensures.answered in
+    (stays_lawful s (entering d) e _ (entered (ledger_of s) (listed c.push.new.self) d (c.count-count.result + 1) _ c.in_ok-element.ensures.answered c.push.ensures), tt)
 
 pub returns : goal.returns
 returns c =
     let s = c.args.self.now in
     let d = c.args.draft in
-    let e = entering_answer (ledger_of s) c.requires.open d c.count-count.result c.count-count.ensures (omega arith) _ c.in-ok-element.ensures.answered in
-    accepts s (entering d) e _ (entered (ledger_of s) (listed c.push.new.self) d (c.count-count.result + 1) _ c.in-ok-element.ensures.answered c.push.ensures)
+    let e = entering_answer (ledger_of s) c.requires.open d c.count-count.result c.count-count.ensures (omega arith) _ c.in_ok-element.ensures.answered in
+    accepts s (entering d) e _ (entered (ledger_of s) (listed c.push.new.self) d (c.count-count.result + 1) _ c.in_ok-element.ensures.answered c.push.ensures)

@@ -10,8 +10,8 @@ use Rattle.study.specs.Studies.{ledger_of}
 use Rattle.study.proofs.Assessments.{short_reply, short_lines, worked_reply, worked_lines, accepted_thick, worked_facts, ready_now, case_now, found_is}
 use Rattle.study.proofs.Study.find.Goals as goal
 
-pub returns-in-default : goal.returns-in-default
-returns-in-default g c = absurd (case_now c.args.self.now c.requires.closed c.in-default.is)
+pub returns-in_default : goal.returns-in_default
+returns-in_default g c = absurd (case_now c.args.self.now c.requires.closed c.in_default.is)
 
 pub returns-then-lines-elements : goal.returns-then-lines-elements
 returns-then-lines-elements g c =
@@ -20,33 +20,33 @@ returns-then-lines-elements g c =
     let short : length c.args.lines.now < length l.elements = omega (arith, ap length c.elements-elements.ensures) in
     record { answered = short_reply l c.requires.closed b c.args.lines.now short; lines = short_lines l c.requires.closed b c.args.lines.now short }
 
-pub work-out-requires : goal.work-out-requires
-work-out-requires g c =
+pub work_out-requires : goal.work_out-requires
+work_out-requires g c =
     record { ready = ready_now c.args.self.now c.requires.closed c.elements-elements.result.now c.elements-elements.ensures; room = omega arith }
 
-pub returns-in-err-work-out : goal.returns-in-err-work-out
-returns-in-err-work-out g c =
+pub returns-in_err-work_out : goal.returns-in_err-work_out
+returns-in_err-work_out g c =
     let l = ledger_of c.args.self.now in
     let t = g.B.WalkingTables.meaning c.args.book.now in
     let b : Book = record { tables = t; rules = g.B.RuleBook.rules c.args.book.now } in
     let before = c.args.lines.now in
     let same = c.elements-elements.ensures in
     let room : length l.elements ≤ length before = omega (arith, ap length same) in
-    let y = c.in-err-work-out.field-0.0 in
-    let e = worked_reply l c.requires.closed b before room (refused (number_of y) (place_of y)) (c.in-err-work-out.ensures.answered ∙ ap (λ x. first_true (thin_sentences t x) tt) same) in
+    let y = c.in_err-work_out.field-0.0 in
+    let e = worked_reply l c.requires.closed b before room (refused (number_of y) (place_of y)) (c.in_err-work_out.ensures.answered ∙ ap (λ x. first_true (thin_sentences t x) tt) same) in
     let p = err_from_is_err_and c.from-residual.result c.from-residual.ensures.1 in
     record {
       answered = rw (p.1, p.2) e;
-      lines = worked_lines l c.requires.closed b before room c.work-out.new.sheet (c.in-err-work-out.ensures.written ∙ ap (λ x. worked_out t x ++ drop (length x) before) same);
+      lines = worked_lines l c.requires.closed b before room c.work_out.new.sheet (c.in_err-work_out.ensures.written ∙ ap (λ x. worked_out t x ++ drop (length x) before) same);
     }
 
-pub find-ends-ends-requires : goal.find-ends-ends-requires
-find-ends-ends-requires g c =
+pub find_ends-ends-requires : goal.find_ends-ends-requires
+find_ends-ends-requires g c =
     let t = g.B.WalkingTables.meaning c.args.book.now in
     let xs = c.elements-elements.result.now in
     let ready = ready_now c.args.self.now c.requires.closed xs c.elements-elements.ensures in
-    let none = accepted_thick t xs c.in-ok-work-out.ensures.answered in
-    record { worked = (t, worked_facts t xs c.args.lines.now c.work-out.new.sheet (g.met.B.WalkingTables.lawful c.args.book.now) ready none c.in-ok-work-out.ensures.written) }
+    let none = accepted_thick t xs c.in_ok-work_out.ensures.answered in
+    record { worked = (t, worked_facts t xs c.args.lines.now c.work_out.new.sheet (g.met.B.WalkingTables.lawful c.args.book.now) ready none c.in_ok-work_out.ensures.written) }
 
 pub returns : goal.returns
 returns g c =
@@ -59,12 +59,12 @@ returns g c =
     let same = c.elements-elements.ensures in
     let room : length l.elements ≤ length before = omega (arith, ap length same) in
     let ready = ready_now s c.requires.closed xs same in
-    let none = accepted_thick t xs c.in-ok-work-out.ensures.answered in
-    let w = worked_facts t xs before c.work-out.new.sheet (g.met.B.WalkingTables.lawful c.args.book.now) ready none c.in-ok-work-out.ensures.written in
-    let r = c.find-ends-ends.result in
-    let f = found_is b c.in-Some.case-data s.case xs r.lower r.upper r.governing c.judge.result c.in-Some.is (c.find-ends-ends.ensures.lower t w) (c.find-ends-ends.ensures.upper t w) (c.find-ends-ends.ensures.governing t w) c.judge.ensures in
-    let e = worked_reply l c.requires.closed b before room (accepted tt) (c.in-ok-work-out.ensures.answered ∙ ap (λ x. first_true (thin_sentences t x) tt) same) in
+    let none = accepted_thick t xs c.in_ok-work_out.ensures.answered in
+    let w = worked_facts t xs before c.work_out.new.sheet (g.met.B.WalkingTables.lawful c.args.book.now) ready none c.in_ok-work_out.ensures.written in
+    let r = c.find_ends-ends.result in
+    let f = found_is b c.in-Some.case_data s.case xs r.lower r.upper r.governing c.judge.result c.in-Some.is (c.find_ends-ends.ensures.lower t w) (c.find_ends-ends.ensures.upper t w) (c.find_ends-ends.ensures.governing t w) c.judge.ensures in
+    let e = worked_reply l c.requires.closed b before room (accepted tt) (c.in_ok-work_out.ensures.answered ∙ ap (λ x. first_true (thin_sentences t x) tt) same) in
     record {
       answered = ap (λ k. accepted (found k)) (f ∙ ap (λ x. finding b (case_or s.case) x) same) ∙ e;
-      lines = worked_lines l c.requires.closed b before room c.work-out.new.sheet (c.in-ok-work-out.ensures.written ∙ ap (λ x. worked_out t x ++ drop (length x) before) same);
+      lines = worked_lines l c.requires.closed b before room c.work_out.new.sheet (c.in_ok-work_out.ensures.written ∙ ap (λ x. worked_out t x ++ drop (length x) before) same);
     }

@@ -7,8 +7,8 @@ use Rattle.ledger.specs.Runs.{Run, start}
 use Rattle.ledger.proofs.Reaches.{new_lawful}
 use Rattle.study.proofs.Study.new.Goals as goal
 
-pub invariant-of-result : goal.invariant-of-result
-invariant-of-result c =
+pub invariant_of-result : goal.invariant_of-result
+invariant_of-result c =
     let empty = ap (ledger_with Open None) c.new.ensures in
     (∣ subst LawfulLedger (sym empty) new_lawful ∣₁, tt)
 

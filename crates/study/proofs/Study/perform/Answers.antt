@@ -13,8 +13,8 @@ use Rattle.study.proofs.Performing.{keeps_lines, replies, wrong_stage_writes_non
 use Rattle.study.proofs.Assessments.{assessed}
 use Rattle.study.proofs.Study.perform.Goals as goal
 
-pub invariant-of-self : goal.invariant-of-self
-invariant-of-self g c =
+pub invariant_of-self : goal.invariant_of-self
+invariant_of-self g c =
     let s = c.args.self.now in
     (stays_lawful s reopening (in_stage (ledger_of s) reopening c.in-Closed-Reopen.is-0) _ refl, tt)
 
@@ -22,7 +22,7 @@ pub returns-in-Open-Set : goal.returns-in-Open-Set
 unfolding written
 returns-in-Open-Set g c =
     rw c.in-Open-Set.is-1 (record {
-      follows = replies c.args.self.now c.store-case.new.self (setting c.in-Open-Set.data) _ _ c.done.ensures c.store-case.ensures;
+      follows = replies c.args.self.now c.store_case.new.self (setting c.in-Open-Set.data) _ _ c.done.ensures c.store_case.ensures;
       worksheet = keeps_lines [] c.args.worksheet.now refl;
       reachable = every_run_is_lawful;
       sound = every_run_is_sound;
@@ -105,18 +105,18 @@ returns-in-Closed-Set g c =
       sound = every_run_is_sound;
     }
 
-pub returns-in-err-find : goal.returns-in-err-find
-returns-in-err-find g c =
+pub returns-in_err-find : goal.returns-in_err-find
+returns-in_err-find g c =
     let s = c.args.self.now in
     let b : Book = record { tables = g.B.WalkingTables.meaning c.in-Closed-Assess.book.now; rules = g.B.RuleBook.rules c.in-Closed-Assess.book.now } in
-    let y = c.in-err-find.field-0.0 in
-    let f = assessed s b (length c.args.worksheet.now) (refused (number_of y) (place_of y)) c.in-err-find.ensures.answered in
+    let y = c.in_err-find.field-0.0 in
+    let f = assessed s b (length c.args.worksheet.now) (refused (number_of y) (place_of y)) c.in_err-find.ensures.answered in
     let p = err_from_is_err_and c.from-residual.result c.from-residual.ensures.1 in
-    rw (c.in-Closed-Assess.is-1, p.1, p.2) (record { follows = f; worksheet = c.in-err-find.ensures.lines; reachable = every_run_is_lawful; sound = every_run_is_sound })
+    rw (c.in-Closed-Assess.is-1, p.1, p.2) (record { follows = f; worksheet = c.in_err-find.ensures.lines; reachable = every_run_is_lawful; sound = every_run_is_sound })
 
-pub returns-in-ok-find : goal.returns-in-ok-find
-returns-in-ok-find g c =
+pub returns-in_ok-find : goal.returns-in_ok-find
+returns-in_ok-find g c =
     let s = c.args.self.now in
     let b : Book = record { tables = g.B.WalkingTables.meaning c.in-Closed-Assess.book.now; rules = g.B.RuleBook.rules c.in-Closed-Assess.book.now } in
-    let f = assessed s b (length c.args.worksheet.now) (accepted (found c.in-ok-find.field-0)) c.in-ok-find.ensures.answered in
-    rw c.in-Closed-Assess.is-1 (record { follows = f; worksheet = c.in-ok-find.ensures.lines; reachable = every_run_is_lawful; sound = every_run_is_sound })
+    let f = assessed s b (length c.args.worksheet.now) (accepted (found c.in_ok-find.field-0)) c.in_ok-find.ensures.answered in
+    rw c.in-Closed-Assess.is-1 (record { follows = f; worksheet = c.in_ok-find.ensures.lines; reachable = every_run_is_lawful; sound = every_run_is_sound })

@@ -7,8 +7,8 @@ use Rattle.study.specs.Studies.{ledger_of}
 use Rattle.study.proofs.Following.{refuses, accepts, stays_lawful}
 use Rattle.study.proofs.Study.reopen.Goals as goal
 
-pub invariant-of-self : goal.invariant-of-self
-invariant-of-self c =
+pub invariant_of-self : goal.invariant_of-self
+invariant_of-self c =
     let s = c.args.self.now in
     (stays_lawful s reopening (in_stage (ledger_of s) reopening c.in-Closed.is) _ refl, tt)
 

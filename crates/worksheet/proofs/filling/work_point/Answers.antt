@@ -7,19 +7,19 @@ use Rattle.worksheet.proofs.filling.work_point.Goals as goal
 pub returns-then-width-eq0 : goal.returns-then-width-eq0
 returns-then-width-eq0 g c =
     point_idle (g.T.WalkingTables.meaning c.args.tables.now) c.args.elements.now c.args.point c.args.sheet.now c.requires.first c.requires.before c.requires.ready
-    (omega (arith, c.width-out-width.ensures, c.if-width-eq0.true))
+    (omega (arith, c.width_out-width.ensures, c.if-width-eq0.true))
 
-pub arrivals-at-arrivals-requires : goal.arrivals-at-arrivals-requires
-arrivals-at-arrivals-requires g c =
+pub arrivals_at-arrivals-requires : goal.arrivals_at-arrivals-requires
+arrivals_at-arrivals-requires g c =
     let tables = c.args.tables.now in
     small_lines (g.T.WalkingTables.meaning tables) c.args.elements.now (g.met.T.WalkingTables.lawful tables) c.requires.ready (c.args.point - 1) c.args.sheet.now (omega (arith, c.requires.last)) c.requires.before
 
-pub specific-flow-specific-flow-requires : goal.specific-flow-specific-flow-requires
-specific-flow-specific-flow-requires g c =
+pub specific_flow-specific_flow-requires : goal.specific_flow-specific_flow-requires
+specific_flow-specific_flow-requires g c =
     let tables = c.args.tables.now in
     let es = c.args.elements.now in
     let ls = c.args.sheet.now in
-    let came = c.arrivals-at-arrivals in
+    let came = c.arrivals_at-arrivals in
     let small : SmallLines es ls = small_lines (g.T.WalkingTables.meaning tables) es (g.met.T.WalkingTables.lawful tables) c.requires.ready (c.args.point - 1) ls (omega (arith, c.requires.last)) c.requires.before in
     record {
       lower = arrivals_lower es ls c.args.point came.result came.ensures small;
@@ -27,16 +27,16 @@ specific-flow-specific-flow-requires g c =
       some = omega arith;
     }
 
-pub invariant-of-sharing : goal.invariant-of-sharing
-invariant-of-sharing g c =
-    let came = c.arrivals-at-arrivals in (
+pub invariant_of-sharing : goal.invariant_of-sharing
+invariant_of-sharing g c =
+    let came = c.arrivals_at-arrivals in (
       arrivals_few c.args.elements.now c.args.sheet.now c.args.point came.result came.ensures (g.T.WalkingTables.meaning c.args.tables.now) c.requires.ready c.requires.first c.requires.last c.requires.before,
       (omega arith, tt),
     )
 
 pub returns : goal.returns
 returns g c =
-    let came = c.arrivals-at-arrivals in
-    let s = c.specific-flow-specific-flow in
+    let came = c.arrivals_at-arrivals in
+    let s = c.specific_flow-specific_flow in
     point_by (g.T.WalkingTables.meaning c.args.tables.now) c.args.elements.now c.args.point c.args.sheet.now c.requires.first c.requires.before
-    c.width-out-width.result came.result s.result c.write-departures.new.sheet c.width-out-width.ensures came.ensures s.ensures c.write-departures.ensures
+    c.width_out-width.result came.result s.result c.write_departures.new.sheet c.width_out-width.ensures came.ensures s.ensures c.write_departures.ensures

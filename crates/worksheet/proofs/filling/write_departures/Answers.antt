@@ -11,13 +11,13 @@ pub share-persons-requires : goal.share-persons-requires
 share-persons-requires g c = record {
   ready = c.requires.ready;
   width = c.requires.width;
-  left = c.left-over-left-over.ensures;
+  left = c.left_over-left_over.ensures;
   within = omega arith;
   leaving = ap (λ i. (el c.args.elements.now i).from) c.loop-element.invariant.0 ∙ c.if-element-sharing.true;
 }
 
-pub leaving-line-requires : goal.leaving-line-requires
-leaving-line-requires g c = record {
+pub leaving_line-requires : goal.leaving_line-requires
+leaving_line-requires g c = record {
   lawful = lawful_at c.requires.ready c.loop-element.element-index c.loop-element-test.true;
   few = omega (arith, c.share-persons.ensures.small, c.args.sharing.few);
 }
@@ -36,12 +36,12 @@ loop-element-preserved g c =
     elim c.if-element-sharing.branch [
       | then-element-sharing w ↦ (
         ap (λ k. k + 1) l.invariant.0,
-        λ x. w.sheet-is ∙ line_written t es l.sheet ys l.i l.element-index l.invariant.0 c.loop-element-test.true c.requires.room p (around c.args.specific-flow x) n (l.invariant.1 x)
-            w.share-persons.result w.leaving-line.result w.if-element-sharing.true w.share-persons.ensures.value (w.leaving-line.ensures x),
+        λ x. w.sheet-is ∙ line_written t es l.sheet ys l.i l.element-index l.invariant.0 c.loop-element-test.true c.requires.room p (around c.args.specific_flow x) n (l.invariant.1 x)
+            w.share-persons.result w.leaving_line.result w.if-element-sharing.true w.share-persons.ensures.value (w.leaving_line.ensures x),
       )
       | else-element-sharing w ↦ (
         ap (λ k. k + 1) l.invariant.0,
-        λ x. w.sheet-is ∙ line_kept t es l.sheet ys l.i l.element-index l.invariant.0 c.loop-element-test.true c.requires.room p (around c.args.specific-flow x) n (l.invariant.1 x) w.if-element-sharing.false,
+        λ x. w.sheet-is ∙ line_kept t es l.sheet ys l.i l.element-index l.invariant.0 c.loop-element-test.true c.requires.room p (around c.args.specific_flow x) n (l.invariant.1 x) w.if-element-sharing.false,
       )
     ]
 
@@ -49,5 +49,5 @@ pub returns : goal.returns
 returns g c x =
     let t = g.T.WalkingTables.meaning c.args.tables.now in
     let ys = c.args.sheet.now in
-    all_laid (departed t c.args.elements.now c.args.sharing.point (around c.args.specific-flow x) c.args.sharing.persons ys)
+    all_laid (departed t c.args.elements.now c.args.sharing.point (around c.args.specific_flow x) c.args.sharing.persons ys)
     c.loop-element.sheet ys c.loop-element.element-index (length c.args.elements.now) (omega arith) (c.loop-element.invariant.1 x)

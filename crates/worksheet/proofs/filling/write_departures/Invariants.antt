@@ -7,4 +7,4 @@ use Rattle.worksheet.proofs.filling.write_departures.Given as goal
 abbrev pub invariant-loop-element : goal.invariant-loop-element
 invariant-loop-element g l =
     (l.i ≡ l.element-index)
-    × ((x : Fraction) → l.sheet ≡ laid (departed (g.T.WalkingTables.meaning l.tables) l.elements l.sharing.point (around l.specific-flow x) l.sharing.persons l.initial.sheet) l.element-index l.initial.sheet)
+    × ((x : Fraction) → l.sheet ≡ laid (departed (g.T.WalkingTables.meaning l.tables) l.elements l.sharing.point (around l.specific_flow x) l.sharing.persons l.initial.sheet) l.element-index l.initial.sheet)

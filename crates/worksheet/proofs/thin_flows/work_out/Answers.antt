@@ -6,10 +6,10 @@ returns-in-Some g c =
     let t = g.T.WalkingTables.meaning c.args.tables.now in
     let es = c.args.elements.now in
     let ys = c.args.sheet.now in
-    let xs = c.fill-worksheet.new.sheet in
+    let xs = c.fill_worksheet.new.sheet in
     record {
-      answered = refused_by t es ys xs c.fill-worksheet.ensures c.in-Some.number c.in-Some.ensures;
-      written = cleared_by t es ys xs c.fill-worksheet.ensures c.in-Some.number c.clear-lines.new.sheet c.in-Some.ensures c.clear-lines.ensures;
+      answered = refused_by t es ys xs c.fill_worksheet.ensures c.in-Some.number c.in-Some.ensures;
+      written = cleared_by t es ys xs c.fill_worksheet.ensures c.in-Some.number c.clear_lines.new.sheet c.in-Some.ensures c.clear_lines.ensures;
     }
 
 pub returns-in-None : goal.returns-in-None
@@ -17,8 +17,8 @@ returns-in-None g c =
     let t = g.T.WalkingTables.meaning c.args.tables.now in
     let es = c.args.elements.now in
     let ys = c.args.sheet.now in
-    let xs = c.fill-worksheet.new.sheet in
+    let xs = c.fill_worksheet.new.sheet in
     record {
-      answered = accepted_by t es ys xs c.fill-worksheet.ensures c.in-None.ensures;
-      written = kept_by t es ys xs c.fill-worksheet.ensures c.in-None.ensures;
+      answered = accepted_by t es ys xs c.fill_worksheet.ensures c.in-None.ensures;
+      written = kept_by t es ys xs c.fill_worksheet.ensures c.in-None.ensures;
     }

@@ -9,4 +9,4 @@ loop-k-init c = none_known c.args.self.way (net_of c.args.self.end c.args.elemen
 pub loop-k-preserved : goal.loop-k-preserved
 loop-k-preserved c =
     next_known c.args.self.way (net_of c.args.self.end c.args.elements.now c.args.lines.now) c.requires.walkable
-    c.loop-k.k c.point-p.result c.longest-at.result c.loop-k.reach (omega arith) (omega arith) c.point-p.ensures c.loop-k.invariant c.longest-at.ensures
+    c.loop-k.k c.point-p.result c.longest_at.result c.loop-k.reach (omega arith) (omega arith) c.point-p.ensures c.loop-k.invariant c.longest_at.ensures

@@ -4,8 +4,8 @@ use Rattle.walking.specs.Slower.{slow_row}
 use Rattle.walking.proofs.Rows.{any_row, row_slower}
 use Rattle.walking.proofs.slower_walk.SlowerWalkWalkingTables.row.Goals as goal
 
-pub slow-row-requires : goal.slow-row-requires
-slow-row-requires g c =
+pub slow_row-requires : goal.slow_row-requires
+slow_row-requires g c =
     let s = c.args.self.now in
     let k = any_row (g.B.WalkingTables.meaning s.below) (g.met.B.WalkingTables.lawful s.below) c.args.curve c.args.i in
     omega (arith, ap speed c.row.ensures, k.speeds)
