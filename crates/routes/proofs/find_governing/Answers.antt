@@ -5,8 +5,8 @@ use Rattle.ways.specs.Walks.{net_of, ranks, FirstMost}
 use Rattle.routes.proofs.Shown.{Searched, rank_shown, governing_shown, long_enough, sized, shows, walkable}
 use Rattle.routes.proofs.find_governing.Goals as goal
 
-pub slice-bounds-counted-end : goal.slice-bounds-counted-end
-slice-bounds-counted-end c =
+pub slice_bounds-counted-end : goal.slice_bounds-counted-end
+slice_bounds-counted-end c =
     let w = c.requires.worked in
     let enough : length c.args.elements.now ≤ length c.args.lines.now = long_enough w.0 c.args.elements.now c.args.lines.now w.1 in
     search rules

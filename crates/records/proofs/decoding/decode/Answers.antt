@@ -17,5 +17,5 @@ returns-in-4 c = c.decode_upper.ensures ∙ by_tag c.args.bytes.now 4 (omega ari
 pub returns-in_default : goal.returns-in_default
 returns-in_default c = too_short c.args.bytes.now (search rules)
 
-pub returns-in_default·2 : goal.returns-in_default·2
-returns-in_default·2 c = unknown_tag c.args.bytes.now (λ e. omega arith) (λ e. omega arith) (λ e. omega arith) (λ e. omega arith)
+pub returns-in_default-2 : goal.returns-in_default-2
+returns-in_default-2 c = unknown_tag c.args.bytes.now (λ e. omega arith) (λ e. omega arith) (λ e. omega arith) (λ e. omega arith)

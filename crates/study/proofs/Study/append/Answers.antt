@@ -26,7 +26,7 @@ invariant_of-self c =
     let s = c.args.self.now in
     let d = c.args.draft in
     let e = entering_answer (ledger_of s) c.requires.open d c.count-count.result c.count-count.ensures (omega arith) _ c.in_ok-element.ensures.answered in
-    (stays_lawful s (entering d) e _ (entered (ledger_of s) (listed c.push.new.self) d (c.count-count.result + 1) _ c.in_ok-element.ensures.answered c.push.ensures), tt)
+    record { lawful = stays_lawful s (entering d) e _ (entered (ledger_of s) (listed c.push.new.self) d (c.count-count.result + 1) _ c.in_ok-element.ensures.answered c.push.ensures) }
 
 pub returns : goal.returns
 returns c =

@@ -10,7 +10,7 @@ use Rattle.study.proofs.Study.new.Goals as goal
 pub invariant_of-result : goal.invariant_of-result
 invariant_of-result c =
     let empty = ap (ledger_with Open None) c.new.ensures in
-    (∣ subst LawfulLedger (sym empty) new_lawful ∣₁, tt)
+    record { lawful = ∣ subst LawfulLedger (sym empty) new_lawful ∣₁ }
 
 pub returns : goal.returns
 returns c =

@@ -16,7 +16,7 @@ use Rattle.study.proofs.Study.perform.Goals as goal
 pub invariant_of-self : goal.invariant_of-self
 invariant_of-self g c =
     let s = c.args.self.now in
-    (stays_lawful s reopening (in_stage (ledger_of s) reopening c.in-Closed-Reopen.is-0) _ refl, tt)
+    record { lawful = stays_lawful s reopening (in_stage (ledger_of s) reopening c.in-Closed-Reopen.is-0) _ refl }
 
 pub returns-in-Open-Set : goal.returns-in-Open-Set
 unfolding written

@@ -21,7 +21,7 @@ invariant_of-self c =
     let n = c.args.number in
     let there = c.in_ok-index.ensures.answered in
     let e = striking_answer (ledger_of s) c.requires.open n _ there in
-    (stays_lawful s (striking n) e _ (struck (ledger_of s) (listed c.remove.new.self) n _ there c.remove.ensures), tt)
+    record { lawful = stays_lawful s (striking n) e _ (struck (ledger_of s) (listed c.remove.new.self) n _ there c.remove.ensures) }
 
 pub returns : goal.returns
 returns c =

@@ -10,7 +10,7 @@ use Rattle.study.proofs.Study.reopen.Goals as goal
 pub invariant_of-self : goal.invariant_of-self
 invariant_of-self c =
     let s = c.args.self.now in
-    (stays_lawful s reopening (in_stage (ledger_of s) reopening c.in-Closed.is) _ refl, tt)
+    record { lawful = stays_lawful s reopening (in_stage (ledger_of s) reopening c.in-Closed.is) _ refl }
 
 pub returns-in-Open : goal.returns-in-Open
 returns-in-Open c =

@@ -35,7 +35,7 @@ invariant_of-self c =
     let there = c.in_ok-index.ensures.answered in
     let passed = c.in_ok-element.ensures.answered in
     let e = altering_answer (ledger_of s) c.requires.open n d _ there _ passed in
-    (stays_lawful s (altering n d) e _ (altered (ledger_of s) (listed c.replace.new.self) d n _ passed n _ there c.replace.ensures), tt)
+    record { lawful = stays_lawful s (altering n d) e _ (altered (ledger_of s) (listed c.replace.new.self) d n _ passed n _ there c.replace.ensures) }
 
 pub returns : goal.returns
 returns c =

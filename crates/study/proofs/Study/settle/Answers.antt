@@ -35,7 +35,7 @@ invariant_of-self c =
     let s = c.args.self.now in
     let few = not_outside 1 8000 (aboard (ledger_of s).elements) (omega arith, omega arith) in
     let e = closing_points (ledger_of s) c.requires.open c.if-is_none.ensures few (accepted tt) c.in_ok-check_points.ensures.answered in
-    (stays_lawful s closing e _ refl, tt)
+    record { lawful = stays_lawful s closing e _ refl }
 
 pub returns : goal.returns
 returns c =

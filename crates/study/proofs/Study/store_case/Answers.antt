@@ -17,7 +17,7 @@ pub invariant_of-self : goal.invariant_of-self
 invariant_of-self c =
     let s = c.args.self.now in
     let e = setting_answer (ledger_of s) c.requires.open c.args.data _ c.in_ok-check_case.ensures.answered in
-    (stays_lawful s (setting c.args.data) e _ refl, tt)
+    record { lawful = stays_lawful s (setting c.args.data) e _ refl }
 
 pub returns : goal.returns
 returns c =

@@ -29,10 +29,11 @@ specific_flow-specific_flow-requires g c =
 
 pub invariant_of-sharing : goal.invariant_of-sharing
 invariant_of-sharing g c =
-    let came = c.arrivals_at-arrivals in (
-      arrivals_few c.args.elements.now c.args.sheet.now c.args.point came.result came.ensures (g.T.WalkingTables.meaning c.args.tables.now) c.requires.ready c.requires.first c.requires.last c.requires.before,
-      (omega arith, tt),
-    )
+    let came = c.arrivals_at-arrivals in
+    record {
+      few = arrivals_few c.args.elements.now c.args.sheet.now c.args.point came.result came.ensures (g.T.WalkingTables.meaning c.args.tables.now) c.requires.ready c.requires.first c.requires.last c.requires.before;
+      some = omega arith;
+    }
 
 pub returns : goal.returns
 returns g c =
