@@ -17,7 +17,7 @@ returns-then-count-ge128 c =
 pub returns-in_err-element : goal.returns-in_err-element
 returns-in_err-element c =
     let s = c.args.self.now in
-    let p = err_from_is_err_and c.from-residual.result c.from-residual.ensures.1 in
+    let p = err_from_is_err_and c.from_residual.result c.from_residual.ensures.1 in
     let e = entering_answer (ledger_of s) c.requires.open c.args.draft c.count-count.result c.count-count.ensures (omega arith) _ c.in_err-element.ensures.answered in
     rw (p.1, p.2) (refuses s (entering c.args.draft) _ e)
 

@@ -34,7 +34,7 @@ returns-in_err-work_out g c =
     let room : length l.elements ≤ length before = omega (arith, ap length same) in
     let y = c.in_err-work_out.field-0.0 in
     let e = worked_reply l c.requires.closed b before room (refused (number_of y) (place_of y)) (c.in_err-work_out.ensures.answered ∙ ap (λ x. first_true (thin_sentences t x) tt) same) in
-    let p = err_from_is_err_and c.from-residual.result c.from-residual.ensures.1 in
+    let p = err_from_is_err_and c.from_residual.result c.from_residual.ensures.1 in
     record {
       answered = rw (p.1, p.2) e;
       lines = worked_lines l c.requires.closed b before room c.work_out.new.sheet (c.in_err-work_out.ensures.written ∙ ap (λ x. worked_out t x ++ drop (length x) before) same);

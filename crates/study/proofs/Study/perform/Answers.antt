@@ -105,18 +105,18 @@ returns-in-Closed-Set g c =
       sound = every_run_is_sound;
     }
 
-pub returns-in_err-find : goal.returns-in_err-find
-returns-in_err-find g c =
+pub returns-in_err-find-in-Closed-Assess : goal.returns-in_err-find-in-Closed-Assess
+returns-in_err-find-in-Closed-Assess g c =
     let s = c.args.self.now in
     let b : Book = record { tables = g.B.WalkingTables.meaning c.in-Closed-Assess.book.now; rules = g.B.RuleBook.rules c.in-Closed-Assess.book.now } in
-    let y = c.in_err-find.field-0.0 in
-    let f = assessed s b (length c.args.worksheet.now) (refused (number_of y) (place_of y)) c.in_err-find.ensures.answered in
-    let p = err_from_is_err_and c.from-residual.result c.from-residual.ensures.1 in
-    rw (c.in-Closed-Assess.is-1, p.1, p.2) (record { follows = f; worksheet = c.in_err-find.ensures.lines; reachable = every_run_is_lawful; sound = every_run_is_sound })
+    let y = c.in_err-find-in-Closed-Assess.field-0.0 in
+    let f = assessed s b (length c.args.worksheet.now) (refused (number_of y) (place_of y)) c.in_err-find-in-Closed-Assess.ensures.answered in
+    let p = err_from_is_err_and c.from_residual.result c.from_residual.ensures.1 in
+    rw (c.in-Closed-Assess.is-1, p.1, p.2) (record { follows = f; worksheet = c.in_err-find-in-Closed-Assess.ensures.lines; reachable = every_run_is_lawful; sound = every_run_is_sound })
 
-pub returns-in_ok-find : goal.returns-in_ok-find
-returns-in_ok-find g c =
+pub returns-in_ok-find-in-Closed-Assess : goal.returns-in_ok-find-in-Closed-Assess
+returns-in_ok-find-in-Closed-Assess g c =
     let s = c.args.self.now in
     let b : Book = record { tables = g.B.WalkingTables.meaning c.in-Closed-Assess.book.now; rules = g.B.RuleBook.rules c.in-Closed-Assess.book.now } in
-    let f = assessed s b (length c.args.worksheet.now) (accepted (found c.in_ok-find.field-0)) c.in_ok-find.ensures.answered in
-    rw c.in-Closed-Assess.is-1 (record { follows = f; worksheet = c.in_ok-find.ensures.lines; reachable = every_run_is_lawful; sound = every_run_is_sound })
+    let f = assessed s b (length c.args.worksheet.now) (accepted (found c.in_ok-find-in-Closed-Assess.field-0)) c.in_ok-find-in-Closed-Assess.ensures.answered in
+    rw c.in-Closed-Assess.is-1 (record { follows = f; worksheet = c.in_ok-find-in-Closed-Assess.ensures.lines; reachable = every_run_is_lawful; sound = every_run_is_sound })

@@ -12,7 +12,7 @@ returns-in_err-index c =
     let s = c.args.self.now in
     let n = c.args.number in
     let e = striking_answer (ledger_of s) c.requires.open n _ c.in_err-index.ensures.answered in
-    let p = err_from_is_err_and c.from-residual.result c.from-residual.ensures.1 in
+    let p = err_from_is_err_and c.from_residual.result c.from_residual.ensures.1 in
     rw (p.1, p.2) (refuses s (striking n) _ e)
 
 pub invariant_of-self : goal.invariant_of-self

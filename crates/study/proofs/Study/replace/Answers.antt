@@ -13,7 +13,7 @@ returns-in_err-index c =
     let s = c.args.self.now in
     let n = c.args.number in
     let e = altering_absent (ledger_of s) c.requires.open n c.args.draft _ _ c.in_err-index.ensures.answered in
-    let p = err_from_is_err_and c.from-residual.result c.from-residual.ensures.1 in
+    let p = err_from_is_err_and c.from_residual.result c.from_residual.ensures.1 in
     rw (p.1, p.2) (refuses s (altering n c.args.draft) _ e)
 
 pub returns-in_err-element : goal.returns-in_err-element
@@ -24,7 +24,7 @@ returns-in_err-element c =
     let there = c.in_ok-index.ensures.answered in
     let y = c.in_err-element.field-0.0 in
     let e = altering_answer (ledger_of s) c.requires.open n d _ there (refused (number_of y) (place_of y)) c.in_err-element.ensures.answered in
-    let p = err_from_is_err_and c.from-residual-in_err-element.result c.from-residual-in_err-element.ensures.1 in
+    let p = err_from_is_err_and c.from_residual-in_err-element.result c.from_residual-in_err-element.ensures.1 in
     rw (p.1, p.2) (refuses s (altering n d) _ e)
 
 pub invariant_of-self : goal.invariant_of-self

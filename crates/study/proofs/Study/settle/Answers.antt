@@ -27,7 +27,7 @@ returns-in_err-check_points c =
     let few = not_outside 1 8000 (aboard (ledger_of s).elements) (omega arith, omega arith) in
     let y = c.in_err-check_points.field-0.0 in
     let e = closing_points (ledger_of s) c.requires.open c.if-is_none.ensures few (refused (number_of y) (place_of y)) c.in_err-check_points.ensures.answered in
-    let p = err_from_is_err_and c.from-residual.result c.from-residual.ensures.1 in
+    let p = err_from_is_err_and c.from_residual.result c.from_residual.ensures.1 in
     rw (p.1, p.2) (refuses s closing _ e)
 
 pub invariant_of-self : goal.invariant_of-self

@@ -10,7 +10,7 @@ pub returns-in_err-check_case : goal.returns-in_err-check_case
 returns-in_err-check_case c =
     let s = c.args.self.now in
     let e = setting_answer (ledger_of s) c.requires.open c.args.data _ c.in_err-check_case.ensures.answered in
-    let p = err_from_is_err_and c.from-residual.result c.from-residual.ensures.1 in
+    let p = err_from_is_err_and c.from_residual.result c.from_residual.ensures.1 in
     rw (p.1, p.2) (refuses s (setting c.args.data) _ e)
 
 pub invariant_of-self : goal.invariant_of-self
