@@ -1,6 +1,6 @@
 -- Records and their bytes determine each other.
 use Rattle.std.proofs.Common.{◌≡◌, ℕ, zero, suc, ◌+◌, ◌<◌, ◌≤◌, Bool, true, false, cond, not, ◌&&◌, eqb, List, [], ◌∷◌, ◌++◌, length, get_or, drop, Some, None, Option, sym, refl, ap, ◌∙◌, subst, arith}
-use Rattle.std.specs.List.{AllByRecursion as All}
+use Rattle.std.specs.List.{AllByRecursion}
 use Rattle.std.proofs.lemmas.List.FromFn.{fill_by_all}
 use Rattle.std.proofs.lemmas.List.{get_or-drop}
 use Rattle.std.proofs.lemmas.Bool.{eqb-true, eqb-false, and_parts, not-true, cond-true, cond_both}
@@ -44,7 +44,7 @@ decoding_undoes_encoding (Lower Exceeds low) f = λ i. Some (Lower Exceeds (numb
 decoding_undoes_encoding (Lower Undecided low) f = λ i. Some (Lower Undecided (number_of_bytes 8 low f i))
 decoding_undoes_encoding (Upper g high) f = λ i. Some (Upper g (number_of_bytes 8 high f i))
 
-small_at : (bs : List ℕ) → All (λ b. b < 256) bs → (k : ℕ) → get_or bs k 0 < 256
+small_at : (bs : List ℕ) → AllByRecursion (λ b. b < 256) bs → (k : ℕ) → get_or bs k 0 < 256
 small_at [] h k = omega arith
 small_at (b ∷ bs) h zero = h.0
 small_at (b ∷ bs) h (suc k) = small_at bs h.1 k

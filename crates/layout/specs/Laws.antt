@@ -1,6 +1,6 @@
 -- Records and their bytes determine each other.
 use Rattle.std.specs.Prelude.{◌≡◌, ℕ, ◌^◌, ◌<◌, ◌≤◌, List, length, Some}
-use Rattle.std.specs.List.{AllByRecursion as All}
+use Rattle.std.specs.List.{AllByRecursion}
 use Rattle.network.specs.Lawful.{Within}
 use Rattle.layout.specs.declared.Record.{Record}
 use Rattle.layout.specs.declared.Record.TheVariants.{Opening, Element, Lower, Upper}
@@ -19,4 +19,4 @@ DecodingUndoesEncoding = (x : Record) → Fits x → decode (encode x) ≡ Some 
 
 -- bytes that decode are the encoding of what they decode to
 abbrev pub EncodingUndoesDecoding : Type 0
-EncodingUndoesDecoding = (bs : List ℕ) (x : Record) → All (λ b. b < 256) bs → decode bs ≡ Some x → encode x ≡ bs
+EncodingUndoesDecoding = (bs : List ℕ) (x : Record) → AllByRecursion (λ b. b < 256) bs → decode bs ≡ Some x → encode x ≡ bs

@@ -4,7 +4,7 @@ use mathlib.Core.Logic.{∥∥₁_elim, ∥∥₁_map}
 use mathlib.Core.HLevel.{⊥_prop, Unit-prop, ×_prop}
 use mathlib.Core.Bool.{Bool-set}
 use native.Mathlib.Bridge.{le_prop}
-use Rattle.std.specs.List.{AllByRecursion as All}
+use Rattle.std.specs.List.{AllByRecursion}
 use Rattle.network.specs.declared.CaseData.{CaseData}
 use Rattle.network.specs.declared.Element.{Element}
 use Rattle.network.specs.Sentences.{Sentence}
@@ -23,7 +23,7 @@ none_prop (s ∷ ss) = ×_prop (Bool-set s.holds false) (none_prop ss)
 element_stands : (e : Element) → ∥ LawfulElement e ∥₁ → LawfulElement e
 element_stands e t = lawful_element e 0 (∥∥₁_elim t (none_prop (measure_sentences e 0)) (element_passes e 0))
 
-elements_stand : (es : List Element) → ∥ All LawfulElement es ∥₁ → All LawfulElement es
+elements_stand : (es : List Element) → ∥ AllByRecursion LawfulElement es ∥₁ → AllByRecursion LawfulElement es
 elements_stand [] t = tt
 elements_stand (e ∷ es) t = (element_stands e (∥∥₁_map t (λ a. a.0)), elements_stand es (∥∥₁_map t (λ a. a.1)))
 

@@ -1,6 +1,6 @@
 -- What every study keeps that calls can lead to.
 use Rattle.std.specs.Prelude.{◌≡◌, ℕ, ◌≤◌, List, length, Some}
-use Rattle.std.specs.List.{AllByRecursion as All}
+use Rattle.std.specs.List.{AllByRecursion}
 use Rattle.network.specs.declared.CaseData.{CaseData}
 use Rattle.network.specs.Lawful.{LawfulElement, LawfulCase}
 use Rattle.network.specs.Ready.{Ready}
@@ -15,7 +15,7 @@ pub record Assessable (l : Ledger) : Type 0 where
 
 pub record LawfulLedger (l : Ledger) : Type 0 where
   pub few : length l.elements ≤ 128
-  pub elements_lawful : All LawfulElement l.elements
+  pub elements_lawful : AllByRecursion LawfulElement l.elements
   pub case_lawful : (c : CaseData) → l.case ≡ Some c → LawfulCase c
   pub closed : l.stage ≡ Closed → Assessable l
 

@@ -1,6 +1,6 @@
 -- The list of all routes has the used routes and no other, there is one, and none has more elements than the network.
 use Rattle.std.proofs.Common.{◌≡◌, ℕ, zero, suc, ◌+◌, ◌<◌, ◌≤◌, Bool, true, false, cond, eqb, ltb, leb, ◌⊎◌, List, [], ◌∷◌, map, length, sym, refl, ap, subst, inl, inr, ⊎_elim, arith}
-use Rattle.std.specs.List.{AllByRecursion as All}
+use Rattle.std.specs.List.{AllByRecursion}
 use Rattle.std.proofs.lemmas.Bool.{cases_lt, cases_eq, and_parts, and_from, ltb-true, lt-ltb, le-leb, eqb-true, eqb-false, eq-eqb, ne_eqb}
 use Rattle.exact.specs.Sums.{sum_below, count_where}
 use Rattle.exact.proofs.Numbers.{at_leb}
@@ -65,11 +65,11 @@ module _ (es : List Element) (ls : List WorkedLine) where
   onward_ends p (i ∷ r) z w = absurd (let h = w.0 in omega arith)
 
   -- someone passes every element of it
-  onward_crossed : (p : ℕ) (r : List ℕ) → Onward es ls p r → All (Crossed es ls) r
+  onward_crossed : (p : ℕ) (r : List ℕ) → Onward es ls p r → AllByRecursion (Crossed es ls) r
   onward_crossed p [] w = tt
   onward_crossed p (i ∷ r) w = (w.1, onward_crossed (el es i).to r w.3)
 
-  pub used_crossed : (r : List ℕ) → Used es ls r → All (Crossed es ls) r
+  pub used_crossed : (r : List ℕ) → Used es ls r → AllByRecursion (Crossed es ls) r
   used_crossed [] u = absurd u
   used_crossed (i ∷ r) u = (u.0, onward_crossed (el es i).to r u.2)
 

@@ -1,6 +1,6 @@
 -- The time of a route lies between its ends, and its ends are near.
 use Rattle.std.proofs.Common.{◌≡◌, ℕ, suc, ◌+◌, ◌*◌, ◌<◌, ◌≤◌, max, List, [], ◌∷◌, length, ⊎_elim, mul-le-mul_right, mul-le-mul_left, mul-add, arith}
-use Rattle.std.specs.List.{AllByRecursion as All}
+use Rattle.std.specs.List.{AllByRecursion}
 use Rattle.std.proofs.lemmas.Bool.{cases_lt}
 use Rattle.exact.specs.Fractions.{Fraction, ◌≤ᶠ◌, whole}
 use Rattle.exact.specs.Worked.{Worked, Encloses}
@@ -70,11 +70,11 @@ greatest_of g r = record { lower = greatest (λ i. (g i).lower) r; upper = great
 abbrev summed_of : (ℕ → Worked) → List ℕ → Worked
 summed_of g r = record { lower = summed (λ i. (g i).lower) r; upper = summed (λ i. (g i).upper) r; exact = summed_exact (λ i. (g i).exact) r }
 
-greatest_encloses : (g : ℕ → Worked) (r : List ℕ) → All (λ i. Encloses (g i)) r → Encloses (greatest_of g r)
+greatest_encloses : (g : ℕ → Worked) (r : List ℕ) → AllByRecursion (λ i. Encloses (g i)) r → Encloses (greatest_of g r)
 greatest_encloses g [] h = exactly_encloses 0
 greatest_encloses g (i ∷ r) h = greater_encloses (g i) (greatest_of g r) h.0 (greatest_encloses g r h.1)
 
-summed_encloses : (g : ℕ → Worked) (r : List ℕ) → All (λ i. Encloses (g i)) r → Encloses (summed_of g r)
+summed_encloses : (g : ℕ → Worked) (r : List ℕ) → AllByRecursion (λ i. Encloses (g i)) r → Encloses (summed_of g r)
 summed_encloses g [] h = exactly_encloses 0
 summed_encloses g (i ∷ r) h = add_encloses (g i) (summed_of g r) h.0 (summed_encloses g r h.1)
 
@@ -82,10 +82,10 @@ summed_encloses g (i ∷ r) h = add_encloses (g i) (summed_of g r) h.0 (summed_e
 abbrev pub time_of : (ℕ → Worked) → (ℕ → Worked) → List ℕ → Worked
 time_of d t r = add (greatest_of d r) (summed_of t r)
 
-pub time_of_encloses : (d t : ℕ → Worked) (r : List ℕ) → All (λ i. Encloses (d i)) r → All (λ i. Encloses (t i)) r → Encloses (time_of d t r)
+pub time_of_encloses : (d t : ℕ → Worked) (r : List ℕ) → AllByRecursion (λ i. Encloses (d i)) r → AllByRecursion (λ i. Encloses (t i)) r → Encloses (time_of d t r)
 time_of_encloses d t r h k = add_encloses (greatest_of d r) (summed_of t r) (greatest_encloses d r h) (summed_encloses t r k)
 
-greatest_near : (g : ℕ → Worked) (e : ℕ) (r : List ℕ) → All (λ i. Near e (g i)) r → Near e (greatest_of g r)
+greatest_near : (g : ℕ → Worked) (e : ℕ) (r : List ℕ) → AllByRecursion (λ i. Near e (g i)) r → Near e (greatest_of g r)
 greatest_near g e [] h = omega arith
 greatest_near g e (i ∷ r) h =
     greater_near e (g i).lower (g i).upper (greatest_of g r).lower (greatest_of g r).upper h.0 (greatest_near g e r h.1)
@@ -94,13 +94,13 @@ sum_near : (e a b c d k : ℕ) → 10000000 * b ≤ 10000000 * a + 31 * e * a + 
     → 10000000 * (b + d) ≤ 10000000 * (a + c) + 31 * e * (a + c) + 30000000 * suc k
 sum_near e a b c d k h l = omega (arith, mul-add (31 * e) a c)
 
-summed_near : (g : ℕ → Worked) (e : ℕ) (r : List ℕ) → All (λ i. Near e (g i)) r
+summed_near : (g : ℕ → Worked) (e : ℕ) (r : List ℕ) → AllByRecursion (λ i. Near e (g i)) r
     → 10000000 * (summed_of g r).upper ≤ 10000000 * (summed_of g r).lower + 31 * e * (summed_of g r).lower + 30000000 * length r
 summed_near g e [] h = omega arith
 summed_near g e (i ∷ r) h =
     sum_near e (g i).lower (g i).upper (summed_of g r).lower (summed_of g r).upper (length r) h.0 (summed_near g e r h.1)
 
-pub time_of_near : (d t : ℕ → Worked) (e : ℕ) (r : List ℕ) → All (λ i. Near e (d i)) r → All (λ i. Near e (t i)) r
+pub time_of_near : (d t : ℕ → Worked) (e : ℕ) (r : List ℕ) → AllByRecursion (λ i. Near e (d i)) r → AllByRecursion (λ i. Near e (t i)) r
     → 10000000 * (time_of d t r).upper ≤ 10000000 * (time_of d t r).lower + 31 * e * (time_of d t r).lower + 30000000 * suc (length r)
 time_of_near d t e r h k =
     sum_near e (greatest_of d r).lower (greatest_of d r).upper (summed_of t r).lower (summed_of t r).upper (length r) (greatest_near d e r h) (summed_near t e r k)
