@@ -1,9 +1,9 @@
 -- Reading a column of a curve: falling, falling slowly, and between two neighbouring whole numbers.
-use Rattle.std.proofs.Common.{◌≡◌, ℕ, ◌+◌, ◌-◌, ◌*◌, ◌/◌, ◌<◌, ◌≤◌, cond, leb, ◌⊎◌, List, [], ◌∷◌, ap, inl, inr, ⊎_elim, mul-le-mul_right, mul-le-mul_left, mul-pos, arith}
+use Rattle.std.proofs.Common.{◌≡◌, ℕ, ◌+◌, ◌-◌, ◌*◌, ◌<◌, ◌≤◌, leb, List, [], ◌∷◌, inl, inr, ⊎_elim, mul-le-mul_left, mul-pos, arith}
 use Rattle.exact.specs.Fractions.{Fraction, Proper, ◌≤ᶠ◌, whole, plus}
 use Rattle.walking.specs.Curves.{Row, entry}
 use Rattle.walking.specs.Laws.{Onward as EachStep}
-use Rattle.curves.specs.Reading.{mega, segment, onward, read}
+use Rattle.curves.specs.Reading.{mega, segment, onward}
 use Rattle.curves.specs.Laws.{Amid, DifferAtMost}
 use Rattle.curves.proofs.Steps.{Rises, Falls, Slowly, Gently}
 use Rattle.curves.proofs.Steps.{ReadFalls, ReadSlowly, ReadAmid}

@@ -1,5 +1,5 @@
 -- The laws of walking tables, column by column, as reading wants them.
-use Rattle.std.proofs.Common.{◌≡◌, ℕ, ◌≤◌, List, [], ◌∷◌, arith}
+use Rattle.std.proofs.Common.{◌≡◌, ℕ, List, [], ◌∷◌, arith}
 use Rattle.walking.specs.Curves.{Row, Curve, entry, flow, speed}
 use Rattle.walking.specs.Laws.{Within, Each, DensityRow, DensityStep, DensityLaw, FlowRow, FlowStep, FlowLaw}
 use Rattle.walking.specs.Laws.{Onward as EachStep}

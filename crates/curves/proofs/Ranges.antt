@@ -1,5 +1,5 @@
 -- A reading stays in the range of its column.
-use Rattle.std.proofs.Common.{◌≡◌, ℕ, ◌+◌, ◌-◌, ◌*◌, ◌<◌, ◌≤◌, List, [], ◌∷◌, mul-le-mul_right, arith}
+use Rattle.std.proofs.Common.{ℕ, ◌+◌, ◌-◌, ◌*◌, ◌≤◌, List, [], ◌∷◌, mul-le-mul_right, arith}
 use Rattle.exact.specs.Fractions.{Fraction, ◌≤ᶠ◌, whole, floor, ceiling}
 use Rattle.exact.proofs.Numbers.{times, at_leb}
 use Rattle.exact.proofs.Rounding.{floor_ge, ceiling_le}
@@ -10,7 +10,7 @@ use Rattle.curves.specs.Reading.{mega, segment, onward, read}
 use Rattle.curves.proofs.Steps.{Rises}
 use Rattle.curves.proofs.Segment.{sum_of}
 use Rattle.curves.proofs.CurveLaws.{onward_proper}
-use Rattle.curves.proofs.Kept.{In, Ranged, RangedCurve}
+use Rattle.curves.proofs.Kept.{In, RangedCurve}
 
 segment_least : (m e e' q p v v' : ℕ) → e ≤ e' → e * 1000000 * q ≤ p → p ≤ e' * 1000000 * q → m ≤ v → m ≤ v' → m * 1000000 * (q * (e' - e)) ≤ (v * (e' * 1000000 * q - p) + v' * (p - e * 1000000 * q)) * 1
 segment_least m e e' q p v v' g h h' l l' = omega (arith, times m (sum_of e e' q p g h h'), mul-le-mul_right (e' * 1000000 * q - p) l, mul-le-mul_right (p - e * 1000000 * q) l')

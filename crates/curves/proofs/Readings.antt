@@ -1,14 +1,14 @@
 -- The laws of reading, for every lawful walking tables.
-use Rattle.std.proofs.Common.{◌≡◌, ℕ, ◌+◌, ◌-◌, ◌*◌, ◌<◌, ◌≤◌, min, max, ◌⊎◌, List, [], ◌∷◌, refl, inl, inr, ⊎_elim, mul-le-mul_right, arith}
+use Rattle.std.proofs.Common.{ℕ, ◌+◌, ◌-◌, ◌*◌, ◌≤◌, min, max, ◌⊎◌, [], ◌∷◌, inl, inr, ⊎_elim, mul-le-mul_right, arith}
 use Rattle.exact.specs.Fractions.{Fraction, Proper, ◌≤ᶠ◌, whole, plus, floor, ceiling}
 use Rattle.exact.specs.Worked.{Worked, Encloses, Sinks, gap}
 use Rattle.exact.proofs.Rounding.{floor_le, ceiling_ge, ceiling_near, round_near, falling_encloses, ends_in_order}
-use Rattle.walking.specs.Curves.{Row, Curve, Tables, speed, flow, curve_of}
+use Rattle.walking.specs.Curves.{Curve, Tables, speed, flow, curve_of}
 use Rattle.walking.specs.Laws.{Lawful, DensityLaw, FlowLaw}
 use Rattle.walking.proofs.Rows.{at_curve, at_flow_curve}
 use Rattle.curves.specs.declared.Column.{Column}
 use Rattle.curves.specs.declared.Column.TheVariants.{Flow, Speed}
-use Rattle.curves.specs.Reading.{values, onward, read, read_across, read_falling}
+use Rattle.curves.specs.Reading.{values, read, read_falling}
 use Rattle.curves.specs.Laws.{Amid, DifferAtMost, DensityReadsAmid, AcrossEncloses, SpeedFalls, SpeedFallsSlowly, FallingEncloses, SpeedsInRange, ColumnsInRange}
 use Rattle.curves.proofs.CurveLaws.{read_falls, read_slowly, read_amid, onward_proper}
 use Rattle.curves.proofs.Kept.{gentle, falling_curve, RangedCurve, speeds_of_density, flows_of_density, speeds_of_flow, flows_of_flow}

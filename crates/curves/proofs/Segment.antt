@@ -1,7 +1,7 @@
 -- The weighted mean between two rows, over plain numbers.
-use Rattle.std.proofs.Common.{◌≡◌, ℕ, ◌+◌, ◌-◌, ◌*◌, ◌/◌, ◌<◌, ◌≤◌, ◌⊎◌, ap, inl, inr, ⊎_elim, mul-le-mul_right, mul-le-mul, mul-le-mul_left, arith}
+use Rattle.std.proofs.Common.{◌≡◌, ℕ, ◌+◌, ◌-◌, ◌*◌, ◌≤◌, mul-le-mul_right, mul-le-mul, mul-le-mul_left, arith}
 use native.Mathlib.Nat.{mul-sub}
-use Rattle.exact.proofs.Numbers.{times, cases_le}
+use Rattle.exact.proofs.Numbers.{times}
 
 -- A segment from (e, v) to (e', v') at p/q: u' and u are what is left and what is passed, over q.
 -- (v * u' + v' * u) / (q * (e' - e)), with u + u' = (e' - e) * 10^6 * q

@@ -3,7 +3,7 @@ use Rattle.std.specs.Prelude.{ℕ, ◌+◌, ◌-◌, ◌≤◌, ◌⊎◌}
 use Rattle.exact.specs.Fractions.{Fraction, Proper, ◌≤ᶠ◌, whole, plus, floor, ceiling}
 use Rattle.exact.specs.Worked.{Worked, Encloses, gap}
 use Rattle.walking.specs.Curves.{Tables, curve_of, speed}
-use Rattle.walking.specs.Laws.{Within, Lawful}
+use Rattle.walking.specs.Laws.{Lawful}
 use Rattle.curves.specs.declared.Column.{Column}
 use Rattle.curves.specs.Reading.{values, read, read_across, read_falling}
 

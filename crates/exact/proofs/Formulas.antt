@@ -1,9 +1,9 @@
 -- The formulas of the calculation, and how far apart they leave the ends.
-use Rattle.std.proofs.Common.{◌≡◌, ℕ, ◌+◌, ◌-◌, ◌*◌, ◌/◌, ◌<◌, ◌≤◌, min, ◌⊎◌, ⊎_elim, mul-le-mul_right, mul-le-mul_left, mul-pos, div-mul-le_self, arith}
+use Rattle.std.proofs.Common.{ℕ, ◌+◌, ◌-◌, ◌*◌, ◌/◌, ◌<◌, ◌≤◌, min, ⊎_elim, mul-le-mul_right, mul-le-mul_left, mul-pos, div-mul-le_self, arith}
 use native.Mathlib.Nat.{mul-sub, min-le_left, min-le_right, min-eq_left, min-eq_right, lt-div-mul-add}
 use Rattle.std.proofs.lemmas.Bool.{cases_lt}
-use Rattle.exact.specs.Fractions.{Fraction, scaled, capped, over}
-use Rattle.exact.specs.Worked.{Worked, Encloses, Rises, Sinks, gap, rising, falling}
+use Rattle.exact.specs.Fractions.{scaled, capped, over}
+use Rattle.exact.specs.Worked.{Worked, Encloses, gap, rising, falling}
 use Rattle.exact.specs.Laws.{ScaledRises, CappedRises, OverSinks}
 use Rattle.exact.proofs.Numbers.{cases_le}
 use Rattle.exact.proofs.Rounding.{rising_encloses, falling_encloses}

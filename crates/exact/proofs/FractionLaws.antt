@@ -1,6 +1,6 @@
 -- The order of fractions.
 use Rattle.std.proofs.Common.{ℕ, ◌+◌, ◌*◌, ◌<◌, ◌≤◌, mul-le-mul_left, le_of_mul-le-mul_right, arith}
-use Rattle.exact.specs.Fractions.{Fraction, Proper, ◌≤ᶠ◌, plus}
+use Rattle.exact.specs.Fractions.{Fraction, ◌≤ᶠ◌, plus}
 use Rattle.exact.specs.Laws.{LeTrans}
 
 -- (a/b ≤ c/d ≤ e/f), over plain numbers

@@ -1,8 +1,8 @@
 -- Rounding, and a formula at all three ways of a quantity.
-use Rattle.std.proofs.Common.{◌≡◌, ℕ, ◌+◌, ◌-◌, ◌*◌, ◌/◌, ◌%◌, ◌<◌, ◌≤◌, ◌∙◌, ⊎_elim, mul-le-mul_right, lt_of_mul-lt-mul_right, mul-le-mul_left, div-mul-le_self, le_of_mul-le-mul_right, arith}
+use Rattle.std.proofs.Common.{◌≡◌, ℕ, ◌+◌, ◌-◌, ◌*◌, ◌/◌, ◌%◌, ◌<◌, ◌≤◌, ◌∙◌, mul-le-mul_right, lt_of_mul-lt-mul_right, mul-le-mul_left, div-mul-le_self, le_of_mul-le-mul_right, arith}
 use native.Mathlib.Nat.{mul-lt-mul_of_pos_left, lt-div-mul-add}
 use Rattle.exact.specs.Fractions.{Fraction, Proper, ◌≤ᶠ◌, whole, plus, floor, ceiling}
-use Rattle.exact.specs.Worked.{Worked, Encloses, From, Rises, Sinks, gap, exactly, rounded, rising, falling}
+use Rattle.exact.specs.Worked.{Worked, Encloses, From, exactly}
 use Rattle.exact.specs.Laws.{RisingEncloses, FallingEncloses, RoundedEncloses}
 
 -- quotients over plain numbers

@@ -1,5 +1,5 @@
 -- Sums of worked quantities.
-use Rattle.std.proofs.Common.{◌≡◌, ℕ, zero, suc, ◌+◌, ◌*◌, ◌<◌, ◌≤◌, Bool, true, false, cond, refl, mul-le-mul_left, mul-pos, arith}
+use Rattle.std.proofs.Common.{◌≡◌, ℕ, zero, suc, ◌+◌, ◌*◌, ◌≤◌, Bool, true, false, cond, refl, mul-le-mul_left, mul-pos, arith}
 use Rattle.exact.specs.Fractions.{whole, plus}
 use Rattle.exact.specs.Sums.{sum_below, sum_where}
 use Rattle.exact.specs.Worked.{Worked, Encloses, gap, exactly, fractions, total}

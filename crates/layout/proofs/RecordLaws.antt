@@ -1,5 +1,5 @@
 -- Records and their bytes determine each other.
-use Rattle.std.proofs.Common.{◌≡◌, ℕ, zero, suc, ◌+◌, ◌<◌, ◌≤◌, Bool, true, false, cond, not, ◌&&◌, eqb, List, [], ◌∷◌, ◌++◌, length, get_or, drop, Some, None, Option, sym, refl, ap, ◌∙◌, subst, arith}
+use Rattle.std.proofs.Common.{◌≡◌, ℕ, zero, suc, ◌+◌, ◌<◌, Bool, true, false, cond, not, eqb, List, [], ◌∷◌, ◌++◌, length, get_or, drop, Some, None, Option, sym, refl, ap, ◌∙◌, subst, arith}
 use Rattle.std.specs.List.{AllByRecursion}
 use Rattle.std.proofs.lemmas.List.FromFn.{fill_by_all}
 use Rattle.std.proofs.lemmas.List.{get_or-drop}
@@ -7,14 +7,13 @@ use Rattle.std.proofs.lemmas.Bool.{eqb-true, eqb-false, and_parts, not-true, con
 use Rattle.network.specs.Sentences.{outside}
 use Rattle.network.specs.Lawful.{Within}
 use Rattle.network.proofs.Rules.{inside, not_outside}
-use Rattle.verdicts.specs.declared.Verdict.{Verdict}
 use Rattle.verdicts.specs.declared.Verdict.TheVariants.{Meets, Exceeds, Undecided}
 use Rattle.verdicts.specs.Verdicts.{verdict_number, verdict_of}
 use Rattle.layout.specs.declared.Record.{Record}
 use Rattle.layout.specs.declared.Record.TheVariants.{Opening, Element, Lower, Upper}
 use Rattle.layout.specs.Numbers.{bytes_of, number_at, zeros_at}
 use Rattle.layout.specs.Records.{encode, decode, decode_by, when, opening_in, element_in, lower_in, upper_in}
-use Rattle.layout.specs.Laws.{Fits, DecodingUndoesEncoding, EncodingUndoesDecoding}
+use Rattle.layout.specs.Laws.{DecodingUndoesEncoding, EncodingUndoesDecoding}
 use Rattle.layout.proofs.NumberLaws.{number_of_bytes, part, bytes_of_number, zeros_are}
 
 pub length_encode : (x : Record) → length (encode x) ≡ 16
@@ -157,6 +156,6 @@ pub encoding_undoes_decoding : EncodingUndoesDecoding
 unfolding decode
 encoding_undoes_decoding bs x small e =
     let tag = get_or bs 0 0 in
-    let rest-small : (k : ℕ) → get_or (drop 4 bs) k 0 < 256 = λ k. subst (λ v. v < 256) (sym (get_or-drop 4 bs k 0)) (small_at bs small (4 + k)) in
-    by_tag tag (get_or bs 1 0) (get_or bs 2 0) (get_or bs 3 0) (drop 4 bs) rest-small x (eqb tag 1) (eqb tag 2) (eqb tag 3) (eqb tag 4) refl refl refl refl e
+    let rest_small : (k : ℕ) → get_or (drop 4 bs) k 0 < 256 = λ k. subst (λ v. v < 256) (sym (get_or-drop 4 bs k 0)) (small_at bs small (4 + k)) in
+    by_tag tag (get_or bs 1 0) (get_or bs 2 0) (get_or bs 3 0) (drop 4 bs) rest_small x (eqb tag 1) (eqb tag 2) (eqb tag 3) (eqb tag 4) refl refl refl refl e
     ∙ long bs x e

@@ -1,5 +1,5 @@
 -- Records and their bytes determine each other.
-use Rattle.std.specs.Prelude.{◌≡◌, ℕ, ◌^◌, ◌<◌, ◌≤◌, List, length, Some}
+use Rattle.std.specs.Prelude.{◌≡◌, ℕ, ◌^◌, ◌<◌, List, Some}
 use Rattle.std.specs.List.{AllByRecursion}
 use Rattle.network.specs.Lawful.{Within}
 use Rattle.layout.specs.declared.Record.{Record}

@@ -1,5 +1,5 @@
 -- The sixteen bytes of a record, and what sixteen bytes say.
-use Rattle.std.specs.Prelude.{ℕ, Bool, cond, not, ◌&&◌, List, [], ◌∷◌, ◌++◌, length, drop, Some, None, Option, ◌==◌, slice_index}
+use Rattle.std.specs.Prelude.{ℕ, Bool, cond, not, ◌&&◌, List, ◌∷◌, ◌++◌, length, drop, Some, None, Option, ◌==◌, slice_index}
 use Rattle.network.specs.Sentences.{outside}
 use Rattle.verdicts.specs.Verdicts.{verdict_number, verdict_of}
 use Rattle.layout.specs.declared.Record.{Record}

@@ -1,5 +1,5 @@
 -- What the checks inside a call come to as the ledger's answer, in the stage that the call needs.
-use Rattle.std.proofs.Common.{◌≡◌, ℕ, ◌+◌, ◌-◌, ◌<◌, ◌≤◌, Bool, true, false, not, leb, List, [], ◌∷◌, length, is_some, sym, refl, ap, ◌∙◌}
+use Rattle.std.proofs.Common.{◌≡◌, ℕ, ◌+◌, ◌-◌, ◌<◌, ◌≤◌, true, false, not, leb, List, [], ◌∷◌, length, is_some, sym, refl, ap, ◌∙◌}
 use Rattle.std.proofs.lemmas.Bool.{le-leb, lt-leb}
 use Rattle.network.specs.declared.CaseData.{CaseData}
 use Rattle.network.specs.declared.Draft.{Draft}
@@ -9,10 +9,10 @@ use Rattle.network.specs.Sentences.{Sentence, says, first_true, outside}
 use Rattle.network.specs.Checks.{element_of, element_sentences, case_sentences}
 use Rattle.network.specs.Elements.{aboard}
 use Rattle.network.specs.Points.{point_sentences}
-use Rattle.network.proofs.First.{NoneTrue, pass, stop, giving, first_giving, given_is, stops_early, goes_on}
+use Rattle.network.proofs.First.{pass, stop, giving, first_giving, given_is, stops_early, goes_on}
 use Rattle.ledger.specs.declared.Stage.{Stage}
 use Rattle.ledger.specs.declared.Stage.TheVariants.{Open, Closed}
-use Rattle.ledger.specs.Ledger.{Ledger, Request, setting, entering, altering, striking, closing, reopening, nothing, gives, needed, same_stage, number_sentence, later_sentences, reply}
+use Rattle.ledger.specs.Ledger.{Ledger, Request, setting, entering, altering, striking, closing, nothing, gives, needed, same_stage, number_sentence, later_sentences, reply}
 
 same : (s : Stage) → same_stage s s ≡ true
 same Open = refl

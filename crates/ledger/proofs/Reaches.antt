@@ -1,5 +1,5 @@
 -- Every call keeps a ledger lawful, so every run leads to a lawful one.
-use Rattle.std.proofs.Common.{◌≡◌, ℕ, suc, ◌+◌, ◌-◌, ◌<◌, ◌≤◌, Bool, true, false, not, leb, List, [], ◌∷◌, ◌++◌, length, take, drop, is_some, Some, None, Option, sym, refl, ◌∙◌, subst, arith, length-set}
+use Rattle.std.proofs.Common.{◌≡◌, ℕ, suc, ◌+◌, ◌-◌, ◌<◌, false, not, length, take, drop, is_some, Some, None, Option, sym, refl, subst, arith, length-set}
 use Rattle.std.proofs.lemmas.Bool.{leb-false}
 use Rattle.std.proofs.lemmas.List.{length_push}
 use Rattle.std.proofs.lemmas.List.Edits.{length-remove}
@@ -15,7 +15,7 @@ use Rattle.network.proofs.Points.{tied}
 use Rattle.ledger.specs.declared.Stage.{Stage}
 use Rattle.ledger.specs.declared.Stage.TheVariants.{Open, Closed}
 use Rattle.ledger.specs.Ledger.{Ledger, new_ledger, Request, setting, entering, altering, striking, closing, reopening, assessing, same_stage, sentences, gives, reply, done, by_reply, next}
-use Rattle.ledger.specs.Runs.{Event, Run, start, further}
+use Rattle.ledger.specs.Runs.{start, further}
 use Rattle.ledger.specs.Reach.{Assessable, LawfulLedger, EveryRunIsLawful}
 
 pub stage_is : (s t : Stage) → not (same_stage s t) ≡ false → s ≡ t

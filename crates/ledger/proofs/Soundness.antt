@@ -19,7 +19,6 @@ use Rattle.ways.proofs.Bounds.{none_above, one_reaches, slowest_exists, slowest_
 use Rattle.ledger.specs.declared.Stage.TheVariants.{Closed}
 use Rattle.ledger.specs.Books.{Book, Kept, finding}
 use Rattle.ledger.specs.Ledger.{Ledger, Request, setting, entering, altering, striking, closing, reopening, assessing, found, case_or, sentences, gives, reply}
-use Rattle.ledger.specs.Runs.{Event, Run}
 use Rattle.ledger.specs.Sound.{Sound, SoundReply, EveryRunIsSound}
 use Rattle.ledger.specs.Reach.{LawfulLedger}
 use Rattle.ledger.proofs.SheetFacts.{sheet_facts}

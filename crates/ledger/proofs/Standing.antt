@@ -1,5 +1,5 @@
 -- What a study keeps in its type is known as a fact that has no proof to show; here the proofs come back.
-use Rattle.std.proofs.Common.{◌≡◌, ℕ, ◌≤◌, Bool, false, List, [], ◌∷◌, Some, None, Option, refl, arith}
+use Rattle.std.proofs.Common.{◌≡◌, ℕ, false, List, [], ◌∷◌, Some, None, Option, refl, arith}
 use mathlib.Core.Logic.{∥∥₁_elim, ∥∥₁_map}
 use mathlib.Core.HLevel.{⊥_prop, Unit-prop, ×_prop}
 use mathlib.Core.Bool.{Bool-set}

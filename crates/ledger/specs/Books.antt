@@ -1,5 +1,5 @@
 -- A rule book by its meaning, and what it finds of a network.
-use Rattle.std.specs.Prelude.{ℕ, List}
+use Rattle.std.specs.Prelude.{List}
 use Rattle.walking.specs.Curves.{Tables}
 use Rattle.walking.specs.Laws.{Lawful}
 use Rattle.walking.specs.Rules.{Rules, InRange}

@@ -1,5 +1,5 @@
 -- What every study keeps that calls can lead to.
-use Rattle.std.specs.Prelude.{◌≡◌, ℕ, ◌≤◌, List, length, Some}
+use Rattle.std.specs.Prelude.{◌≡◌, ◌≤◌, List, length, Some}
 use Rattle.std.specs.List.{AllByRecursion}
 use Rattle.network.specs.declared.CaseData.{CaseData}
 use Rattle.network.specs.Lawful.{LawfulElement, LawfulCase}

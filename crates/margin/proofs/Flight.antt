@@ -1,10 +1,10 @@
 -- What is in flight, from point to point.
-use Rattle.std.proofs.Common.{◌≡◌, ℕ, zero, suc, ◌+◌, ◌-◌, ◌*◌, ◌/◌, ◌<◌, ◌≤◌, min, Bool, true, false, cond, ◌&&◌, ◌||◌, eqb, ltb, leb, ◌⊎◌, sym, refl, ap, ◌∙◌, subst, inl, inr, ⊎_elim, mul-le-mul_right, mul_comm, mul-le-mul_left, le_of_mul-le-mul_right, arith}
+use Rattle.std.proofs.Common.{◌≡◌, ℕ, zero, suc, ◌+◌, ◌*◌, ◌<◌, ◌≤◌, Bool, true, cond, ◌&&◌, ◌||◌, eqb, ltb, leb, ◌⊎◌, ap, subst, ⊎_elim, mul-le-mul_left, arith}
 use native.Mathlib.Nat.{le_of_mul-le-mul_left}
-use Rattle.std.proofs.lemmas.Bool.{cases_lt, cases_eq, eqb-true, eq-eqb, le-leb}
+use Rattle.std.proofs.lemmas.Bool.{cases_eq, eq-eqb}
 use Rattle.std.proofs.lemmas.Bool.Decides.{nat_tests}
 use Rattle.exact.specs.Sums.{sum_below, sum_where, count_where}
-use Rattle.exact.proofs.SumLaws.{sum_mono, sum_plus, sum_same, sum_times, where_times, where_plus, where_mono, where_term, where_le}
+use Rattle.exact.proofs.SumLaws.{sum_mono, sum_plus, sum_times, where_term, where_le}
 use Rattle.exact.specs.Worked.{Worked, gap}
 use Rattle.margin.specs.Network.{Network, Sound, Sources, comes, leaves, done, in_flight, width_out, specific, flow_out, flows}
 use Rattle.margin.specs.Network.{FlightNear, FlowsNear, SpecificNear}

@@ -1,17 +1,12 @@
 -- How far apart the two ends of a flow are.
-use Rattle.std.proofs.Common.{◌≡◌, ℕ, zero, suc, ◌+◌, ◌-◌, ◌*◌, ◌/◌, ◌<◌, ◌≤◌, min, Bool, true, false, cond, ◌&&◌, ◌||◌, eqb, ltb, leb, ◌⊎◌, sym, refl, ap, ◌∙◌, subst, inl, inr, ⊎_elim, mul-le-mul_right, mul_comm, mul-le-mul_left, div-mul-le_self, arith}
-use native.Mathlib.Nat.{mul-sub, lt-div-mul-add}
-use Rattle.std.proofs.lemmas.Bool.{cases_lt, cases_eq, eqb-true, eq-eqb, le-leb}
-use Rattle.std.proofs.lemmas.Bool.Decides.{nat_tests}
-use Rattle.exact.specs.Fractions.{Fraction, whole, scaled, capped, floor, ceiling}
-use Rattle.exact.specs.Sums.{sum_below, sum_where, count_where}
+use Rattle.std.proofs.Common.{◌≡◌, ℕ, ◌+◌, ◌*◌, ◌≤◌, mul_comm, mul-le-mul_left, arith}
+use Rattle.exact.specs.Sums.{sum_where, count_where}
 use Rattle.exact.proofs.Formulas.{scaled_gap, capped_gap}
 use Rattle.exact.proofs.Totals.{total_gap}
-use Rattle.exact.proofs.SumLaws.{sum_mono, sum_plus, sum_same, where_times, where_plus, where_mono, where_term, where_le}
-use Rattle.exact.specs.Worked.{Worked, gap, rising, total}
-use Rattle.margin.specs.Network.{Network, Sound, Sources, comes, leaves, done, in_flight, width_out, arriving, specific, cut, flow_out, next, flows}
+use Rattle.exact.proofs.SumLaws.{where_times, where_plus, where_mono}
+use Rattle.exact.specs.Worked.{Worked, gap}
+use Rattle.margin.specs.Network.{Network, Sound, comes, leaves, width_out, arriving, specific, cut, flow_out}
 use Rattle.margin.specs.Network.{PointWidens}
-use Rattle.margin.proofs.Enclosing.{flows_leave, flows_stay, width_some}
 
 -- one point
 module _ (n : Network) (w : ℕ → Worked) (p : ℕ) where

@@ -1,7 +1,7 @@
 -- The flows of a network, worked from point to point, without lists: each element by its index.
 use Rattle.std.specs.Prelude.{◌≡◌, ℕ, zero, suc, ◌+◌, ◌*◌, ◌<◌, ◌≤◌, Bool, cond, ◌&&◌, ◌||◌, ◌⊎◌, ◌==◌, nat_le, nat_lt}
 use Rattle.exact.specs.Fractions.{scaled, capped}
-use Rattle.exact.specs.Sums.{sum_below, sum_where, count_where}
+use Rattle.exact.specs.Sums.{sum_where, count_where}
 use Rattle.exact.specs.Worked.{Worked, Encloses, gap, rising, total}
 
 pub record Network : Type 0 where

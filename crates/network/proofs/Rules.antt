@@ -1,5 +1,5 @@
 -- The sentences let through exactly what the rules allow.
-use Rattle.std.proofs.Common.{◌≡◌, ℕ, ◌<◌, ◌≤◌, Bool, true, false, not, ◌&&◌, ◌||◌, eqb, ltb, leb, ◌⊎◌, sym, refl, ap, ◌∙◌, inl, inr, arith}
+use Rattle.std.proofs.Common.{◌≡◌, ℕ, ◌<◌, ◌≤◌, Bool, true, false, not, ◌&&◌, ◌||◌, eqb, ltb, ◌⊎◌, refl, ap, inl, inr, arith}
 use Rattle.std.proofs.lemmas.Bool.Decides.{nat_tests}
 use Rattle.network.specs.declared.Kind.{Kind}
 use Rattle.network.specs.declared.Kind.TheVariants.{Corridor, Door, StairDown, StairUp}
@@ -7,7 +7,7 @@ use Rattle.network.specs.declared.Element.{Element}
 use Rattle.network.specs.declared.CaseData.{CaseData}
 use Rattle.network.specs.Kinds.{is_stair}
 use Rattle.network.specs.Sentences.{outside}
-use Rattle.network.specs.Checks.{wrong_length, wrong_points, wrong_persons, measure_sentences, case_sentences}
+use Rattle.network.specs.Checks.{wrong_length, wrong_points, measure_sentences, case_sentences}
 use Rattle.network.specs.Lawful.{Within, LawfulElement, LawfulCase}
 use Rattle.network.proofs.First.{NoneTrue}
 

@@ -1,5 +1,5 @@
 -- Elements moved down by one place, one after another.
-use Rattle.std.proofs.Common.{◌≡◌, ℕ, suc, ◌+◌, ◌-◌, ◌<◌, ◌≤◌, List, [], ◌∷◌, ◌++◌, length, get_or, take, drop, set, sym, refl, ap, ◌∙◌, append_assoc, add-zero, arith, length-drop}
+use Rattle.std.proofs.Common.{◌≡◌, ℕ, suc, ◌+◌, ◌-◌, ◌<◌, ◌≤◌, List, [], ◌∷◌, ◌++◌, length, get_or, take, drop, set, sym, ap, ◌∙◌, append_assoc, add-zero, arith, length-drop}
 use Rattle.std.proofs.lemmas.List.{take_more, take_more_set, take-take, drop-take, drop-set-lt, drop-drop, get_or-drop}
 use Rattle.std.specs.List.{remove}
 

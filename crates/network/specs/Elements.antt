@@ -1,5 +1,5 @@
 -- The elements of a network by their index, from 0.
-use Rattle.std.specs.Prelude.{ℕ, zero, suc, ◌-◌, Bool, true, false, cond, not, ◌||◌, List, length, Some, None, Option, ◌==◌, slice_index_or}
+use Rattle.std.specs.Prelude.{ℕ, zero, suc, ◌-◌, Bool, false, cond, ◌||◌, List, length, Some, None, Option, ◌==◌, slice_index_or}
 use Rattle.exact.specs.Sums.{sum_below}
 use Rattle.network.specs.declared.Kind.TheVariants.{Corridor}
 use Rattle.network.specs.declared.Element.{Element}

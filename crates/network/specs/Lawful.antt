@@ -1,6 +1,5 @@
 -- The rules of elements and of case data, in words.
 use Rattle.std.specs.Prelude.{◌≡◌, ℕ, ◌<◌, ◌≤◌, ◌⊎◌, ◌≢◌}
-use Rattle.network.specs.declared.Kind.{Kind}
 use Rattle.network.specs.declared.Kind.TheVariants.{Corridor, Door}
 use Rattle.network.specs.declared.Draft.{Draft}
 use Rattle.network.specs.declared.Element.{Element}

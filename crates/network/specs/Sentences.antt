@@ -1,5 +1,5 @@
 -- A call is refused by the first true sentence of its list.
-use Rattle.std.specs.Prelude.{ℕ, Bool, true, false, cond, not, ◌&&◌, ◌||◌, List, [], ◌∷◌, nat_lt}
+use Rattle.std.specs.Prelude.{ℕ, Bool, cond, ◌||◌, List, [], ◌∷◌, nat_lt}
 use Rattle.network.specs.Refusals.{Answer, accepted, refused}
 
 -- a sentence that may be true, and the refusal it then stands for

@@ -1,18 +1,18 @@
 -- What a source corridor gives, over plain values.
-use Rattle.std.proofs.Common.{◌≡◌, ℕ, ◌+◌, ◌-◌, ◌*◌, ◌/◌, ◌<◌, ◌≤◌, min, max, refl, ap, ◌∙◌, mul-le-mul_left, mul-pos, arith}
+use Rattle.std.proofs.Common.{◌≡◌, ℕ, ◌+◌, ◌-◌, ◌*◌, ◌/◌, ◌<◌, ◌≤◌, ap, ◌∙◌, mul-le-mul_left, mul-pos, arith}
 use native.Mathlib.Nat.{mul-sub}
 use Rattle.exact.specs.declared.Ends.{Ends}
-use Rattle.exact.specs.Fractions.{Fraction, whole, scaled}
-use Rattle.exact.specs.Worked.{Worked, Encloses, Gives, gap, ends, around, rounded, rising}
+use Rattle.exact.specs.Fractions.{Fraction}
+use Rattle.exact.specs.Worked.{Worked, Encloses, Gives, gap, ends, around}
 use Rattle.exact.proofs.Rounding.{rounded_encloses, ends_in_order}
 use Rattle.exact.proofs.Formulas.{scaled_encloses}
-use Rattle.walking.specs.Curves.{Row, Curve, Tables}
+use Rattle.walking.specs.Curves.{Tables}
 use Rattle.walking.specs.Laws.{Lawful}
 use Rattle.curves.specs.declared.Column.{Column}
-use Rattle.curves.specs.declared.Column.TheVariants.{Flow, Speed}
-use Rattle.curves.specs.Reading.{values, read, read_across}
+use Rattle.curves.specs.declared.Column.TheVariants.{Flow}
+use Rattle.curves.specs.Reading.{values, read_across}
 use Rattle.curves.proofs.Readings.{across_encloses, columns_in_range}
-use Rattle.reading.specs.Sources.{SourceRanges, density, source_specific_flow, source_flow, source_speed, through}
+use Rattle.reading.specs.Sources.{SourceRanges, density, source_specific_flow, source_flow, through}
 
 -- through a width of 10 m at most, 3 become 31 at most
 source_apart : (l u k a b : ℕ) → k ≤ 10000 → u - l ≤ 3 → l * k < a * 1000 + 1000 → b * 1000 < u * k + 1000 → b - a ≤ 31

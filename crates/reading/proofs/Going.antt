@@ -1,9 +1,9 @@
 -- The search for the rows that a quantity lies between.
-use Rattle.std.proofs.Common.{◌≡◌, ℕ, ◌+◌, ◌-◌, ◌*◌, ◌/◌, ◌<◌, ◌≤◌, cond, leb, List, [], ◌∷◌, length, drop, sym, refl, ap, ◌∙◌, arith}
+use Rattle.std.proofs.Common.{◌≡◌, ℕ, ◌+◌, ◌*◌, ◌<◌, ◌≤◌, leb, [], ◌∷◌, length, drop, refl, ◌∙◌, arith}
 use Rattle.std.proofs.lemmas.List.{drop_more, drop_all}
 use Rattle.std.proofs.lemmas.Bool.{cond-true, cond-false, le-leb, lt-leb}
 use Rattle.exact.specs.Fractions.{whole}
-use Rattle.walking.specs.Curves.{Row, Curve, Tables, entry, flow, speed, curve_of, row_at, row_of}
+use Rattle.walking.specs.Curves.{Row, Curve, Tables, entry, curve_of, row_at, row_of}
 use Rattle.walking.specs.Laws.{Each, Onward, DensityLaw, FlowLaw, DensityRow, DensityStep, FlowRow, FlowStep, Lawful}
 use Rattle.walking.proofs.Rows.{at_curve, row_within}
 use Rattle.curves.specs.declared.Column.{Column}
@@ -11,7 +11,7 @@ use Rattle.curves.specs.Reading.{values, mega, segment, onward, read}
 use Rattle.curves.proofs.Steps.{Rises}
 use Rattle.curves.proofs.Kept.{each_so, steps_so}
 use Rattle.reading.specs.declared.parts.Part.TheVariants.{Between, Past}
-use Rattle.reading.specs.Parts.{Small, Bracketed, Found}
+use Rattle.reading.specs.Parts.{Small, Found}
 
 -- what the search wants of a curve
 pub record Searched (c : Curve) : Type 0 where

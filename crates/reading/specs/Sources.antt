@@ -1,6 +1,6 @@
 -- What a corridor gives in which persons stand at the start: p persons on a width w and a length l, in millimetres.
 use Rattle.std.specs.Prelude.{ℕ, ◌*◌, ◌^◌, ◌≤◌}
-use Rattle.exact.specs.Fractions.{Fraction, scaled}
+use Rattle.exact.specs.Fractions.{scaled}
 use Rattle.exact.specs.Worked.{Worked, rounded, rising}
 use Rattle.walking.specs.Curves.{Tables, flow, speed}
 use Rattle.walking.specs.Laws.{Within}

@@ -1,5 +1,5 @@
 -- The bytes of a number as to_be_bytes gives them.
-use Rattle.std.proofs.Common.{◌≡◌, ℕ, ◌*◌, ◌/◌, ◌%◌, List, [], ◌∷◌, refl}
+use Rattle.std.proofs.Common.{◌≡◌, ℕ, ◌/◌, ◌%◌, [], ◌∷◌, refl}
 use native.Mathlib.Nat.{div-div-eq-div-mul}
 use Rattle.layout.specs.Numbers.{bytes_of}
 

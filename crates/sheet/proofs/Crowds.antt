@@ -1,14 +1,14 @@
 -- The persons, point after point.
-use Rattle.std.proofs.Common.{◌≡◌, ℕ, zero, suc, ◌+◌, ◌-◌, ◌*◌, ◌<◌, ◌≤◌, Bool, true, false, cond, ◌&&◌, ◌||◌, eqb, ltb, leb, ◌⊎◌, List, length, sym, refl, ap, ◌∙◌, subst, inl, inr, true≢false, arith}
-use Rattle.std.proofs.lemmas.Bool.{cases_lt, cases_eq, cases_Bool, eqb-true, eqb-false, eq-eqb, cond-true, cond-false, cond_both, or_cases, or_left, or_right}
+use Rattle.std.proofs.Common.{◌≡◌, ℕ, zero, suc, ◌+◌, ◌-◌, ◌<◌, ◌≤◌, Bool, true, false, cond, ◌&&◌, ◌||◌, eqb, ltb, leb, ◌⊎◌, List, length, sym, refl, ap, ◌∙◌, subst, inl, inr, true≢false, arith}
+use Rattle.std.proofs.lemmas.Bool.{cases_lt, cases_eq, eqb-true, eqb-false, eq-eqb, cond_both, or_cases, or_left, or_right}
 use Rattle.std.proofs.lemmas.Bool.Decides.{nat_tests}
 use Rattle.exact.specs.Sums.{sum_below, sum_where}
 use Rattle.walking.specs.Curves.{Tables}
 use Rattle.network.specs.declared.Kind.{Kind}
-use Rattle.network.specs.declared.Kind.TheVariants.{Corridor, Door, StairDown, StairUp}
+use Rattle.network.specs.declared.Kind.TheVariants.{Corridor, Door}
 use Rattle.network.specs.declared.Element.{Element}
 use Rattle.network.specs.Elements.{el, comes, leaves, aboard, any_below}
-use Rattle.sheet.specs.Lines.{at, idle, WorkedLine}
+use Rattle.sheet.specs.Lines.{at, WorkedLine}
 use Rattle.sheet.specs.Sources.{empty_source, full_source, source}
 use Rattle.sheet.specs.Shares.{width_out, share}
 use Rattle.sheet.specs.Points.{persons_in, leaving}

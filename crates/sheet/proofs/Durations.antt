@@ -1,18 +1,15 @@
 -- Durations from quantities whose ends are near.
-use Rattle.std.proofs.Common.{◌≡◌, ℕ, zero, suc, ◌+◌, ◌-◌, ◌*◌, ◌/◌, ◌^◌, ◌<◌, ◌≤◌, true, false, cond, ◌&&◌, eqb, ltb, ◌⊎◌, List, [], ◌∷◌, length, sym, ap, ◌∙◌, subst, inl, inr, ⊎_elim, true≢false, mul-le-mul_left, div-mul-le_self, arith}
+use Rattle.std.proofs.Common.{◌≡◌, ℕ, zero, suc, ◌+◌, ◌-◌, ◌*◌, ◌/◌, ◌^◌, ◌<◌, ◌≤◌, false, eqb, List, [], ◌∷◌, length, sym, ap, ◌∙◌, subst, inl, inr, ⊎_elim, true≢false, mul-le-mul_left, div-mul-le_self, arith}
 use native.Mathlib.Nat.{lt-div-mul-add}
 use Rattle.std.proofs.lemmas.Bool.{cases_lt, cases_Bool, ne_eqb, lt-ltb, and_from, cond-true, cond-false}
 use Rattle.exact.specs.Fractions.{over}
 use Rattle.exact.specs.Worked.{Worked, Encloses, gap, exactly, falling}
 use Rattle.exact.proofs.Formulas.{over_encloses}
 use Rattle.exact.proofs.Rounding.{exactly_encloses, ends_in_order}
-use Rattle.walking.specs.Curves.{Tables}
-use Rattle.walking.specs.Laws.{Lawful}
 use Rattle.network.specs.declared.Kind.{Kind}
 use Rattle.network.specs.declared.Kind.TheVariants.{Corridor, Door, StairDown, StairUp}
 use Rattle.network.specs.declared.Element.{Element}
 use Rattle.network.specs.Elements.{el}
-use Rattle.network.specs.Ready.{Ready}
 use Rattle.sheet.specs.Lines.{WorkedLine, at, flow_duration, walk, travel, thin}
 use Rattle.sheet.specs.Sheet.{worked, sheet, first_thin}
 use Rattle.sheet.specs.Laws.{Near, FlowDurationsNear, TravelsNear}

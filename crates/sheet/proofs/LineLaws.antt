@@ -1,5 +1,5 @@
 -- Every worked line lies between its ends, which are near and in range.
-use Rattle.std.proofs.Common.{◌≡◌, ℕ, zero, suc, ◌+◌, ◌-◌, ◌*◌, ◌<◌, ◌≤◌, min, ◌⊎◌, List, [], ◌∷◌, length, sym, refl, ap, ◌∙◌, subst, inl, inr, arith}
+use Rattle.std.proofs.Common.{◌≡◌, ℕ, zero, suc, ◌+◌, ◌-◌, ◌*◌, ◌<◌, ◌≤◌, List, length, sym, refl, ap, ◌∙◌, subst, inl, inr, arith}
 use native.Mathlib.Nat.{min-le_right}
 use Rattle.std.proofs.lemmas.Bool.{cases_lt, cases_eq}
 use Rattle.exact.specs.Worked.{Worked, Encloses, gap}
@@ -13,13 +13,12 @@ use Rattle.network.specs.declared.Kind.{Kind}
 use Rattle.network.specs.declared.Kind.TheVariants.{Corridor, Door, StairDown, StairUp}
 use Rattle.network.specs.declared.Element.{Element}
 use Rattle.network.specs.Elements.{el}
-use Rattle.network.specs.Ready.{Ready}
-use Rattle.margin.specs.Network.{Network, Sources, specific, flows}
+use Rattle.margin.specs.Network.{Sources, flows}
 use Rattle.margin.specs.Network.{cut as net_cut}
 use Rattle.margin.proofs.Enclosing.{flows_hold, points_hold}
 use Rattle.margin.proofs.Widening.{cut_gap}
 use Rattle.margin.proofs.Flight.{flows_near as net_flows_near, specific_near}
-use Rattle.sheet.specs.Lines.{at, idle, WorkedLine}
+use Rattle.sheet.specs.Lines.{at, WorkedLine}
 use Rattle.sheet.specs.Sources.{source}
 use Rattle.sheet.specs.Shares.{share}
 use Rattle.sheet.specs.Points.{persons_in, specific_flow_in, last_entry, most, cut, speed_at, leaving}
@@ -27,7 +26,7 @@ use Rattle.sheet.specs.Sheet.{worked}
 use Rattle.sheet.specs.Laws.{FlowsEnclose, FlowsNear, SpeedsEnclose, SpeedsNear, SpeedsInRange, FlowsInRange}
 use Rattle.sheet.proofs.Indexed.{Indexed, indexed}
 use Rattle.sheet.proofs.SourceLines.{Fast, Good, source_good, through_small}
-use Rattle.sheet.proofs.Stages.{net, net_sound, at_start, at_none, at_leave, at_stay, settled, past, from_past, flow_at, leave_cut, same_flow, same_flows}
+use Rattle.sheet.proofs.Stages.{net, net_sound, at_start, at_none, at_leave, at_stay, settled, past, flow_at, leave_cut, same_flow, same_flows}
 
 -- a speed of an element of a kind
 pub record Swift (k : Kind) (e : ℕ) (v : Worked) : Type 0 where

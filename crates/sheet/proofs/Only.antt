@@ -1,15 +1,13 @@
 -- The worksheet is what its own equations say, and nothing else is.
-use Rattle.std.proofs.Common.{◌≡◌, ℕ, zero, suc, ◌+◌, ◌-◌, ◌<◌, ◌≤◌, Bool, true, false, cond, eqb, ◌⊎◌, List, [], ◌∷◌, length, get_or, sym, refl, ap, ◌∙◌, subst, inl, inr, arith}
-use Rattle.std.proofs.lemmas.Bool.{cases_lt, cases_eq, eqb-true}
+use Rattle.std.proofs.Common.{◌≡◌, ℕ, zero, suc, ◌-◌, ◌<◌, ◌≤◌, Bool, true, false, cond, List, [], ◌∷◌, length, sym, refl, ap, ◌∙◌, subst, inl, inr, arith}
+use Rattle.std.proofs.lemmas.Bool.{cases_eq, eqb-true}
 use Rattle.exact.specs.Fractions.{Fraction, whole, plus, scaled}
-use Rattle.exact.specs.Sums.{sum_where}
-use Rattle.exact.specs.Worked.{Worked, fractions, rising, total}
+use Rattle.exact.specs.Worked.{fractions, rising}
 use Rattle.exact.proofs.SumLaws.{where_same}
 use Rattle.walking.specs.Curves.{Tables}
 use Rattle.network.specs.declared.Element.{Element}
 use Rattle.network.specs.Elements.{el, comes}
-use Rattle.network.specs.Ready.{Ready}
-use Rattle.sheet.specs.Lines.{WorkedLine, at, idle}
+use Rattle.sheet.specs.Lines.{WorkedLine, at}
 use Rattle.sheet.specs.Sources.{source}
 use Rattle.sheet.specs.Shares.{width_out, share}
 use Rattle.sheet.specs.Points.{persons_in, flows_in, specific_flow_in, leaving}

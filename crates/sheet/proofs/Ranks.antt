@@ -1,9 +1,9 @@
 -- Ranks under a strict order: of those that pass a test, exactly L have a rank below L, where there are so many.
-use Rattle.std.proofs.Common.{◌≡◌, ℕ, zero, suc, ◌+◌, ◌-◌, ◌*◌, ◌<◌, ◌≤◌, min, Bool, true, false, cond, ◌&&◌, ltb, ◌⊎◌, sym, refl, ap, ◌∙◌, subst, inl, inr, arith}
+use Rattle.std.proofs.Common.{◌≡◌, ℕ, zero, suc, ◌+◌, ◌-◌, ◌<◌, ◌≤◌, min, Bool, true, false, cond, ◌&&◌, ltb, ◌⊎◌, refl, ap, ◌∙◌, subst, inl, inr, arith}
 use Rattle.std.proofs.lemmas.Bool.{cases_lt, cases_eq, cases_Bool, and_from, and_parts, and_left, and_right, cond-true, cond-false, lt-ltb, le-ltb}
 use Rattle.std.proofs.lemmas.Bool.Decides.{nat_tests}
 use Rattle.exact.specs.Sums.{sum_below, sum_where, count_where}
-use Rattle.exact.proofs.SumLaws.{sum_same, sum_mono, where_same}
+use Rattle.exact.proofs.SumLaws.{sum_mono, where_same}
 
 abbrev pub rank : (ℕ → Bool) → (ℕ → ℕ → Bool) → ℕ → ℕ → ℕ
 rank t b k i = count_where k (λ j. t j && b i j)

@@ -1,14 +1,14 @@
 -- The shares of n persons by largest remainders.
-use Rattle.std.proofs.Common.{◌≡◌, ℕ, zero, suc, ◌+◌, ◌-◌, ◌*◌, ◌/◌, ◌%◌, ◌<◌, ◌≤◌, min, Bool, true, false, cond, ◌&&◌, ◌||◌, eqb, ltb, ◌⊎◌, List, length, sym, refl, ap, ◌∙◌, subst, inl, inr, mod-lt, mul_comm, mul-le-mul_left, mul-one, mul-add, arith}
+use Rattle.std.proofs.Common.{◌≡◌, ℕ, ◌+◌, ◌-◌, ◌*◌, ◌<◌, ◌≤◌, Bool, cond, ◌&&◌, ◌||◌, eqb, ltb, List, length, refl, ap, ◌∙◌, mod-lt, mul_comm, mul-add, arith}
 use native.Mathlib.Nat.{le_of_mul-le-mul_left, div-add-mod}
 use Rattle.std.proofs.lemmas.Bool.{eq-eqb}
 use Rattle.std.proofs.lemmas.Bool.Decides.{nat_tests}
-use Rattle.exact.specs.Sums.{sum_below, sum_where, count_where}
+use Rattle.exact.specs.Sums.{sum_where, count_where}
 use Rattle.network.specs.declared.Element.{Element}
 use Rattle.network.specs.Elements.{el, leaves}
 use Rattle.sheet.specs.Shares.{width_out, part, remainder, before, left_over, share}
 use Rattle.exact.proofs.SumLaws.{where_term, where_times, where_plus, where_same, where_mono}
-use Rattle.sheet.proofs.Ranks.{Strict, firsts, firsts_are}
+use Rattle.sheet.proofs.Ranks.{Strict, firsts_are}
 
 abbrev pub wide : List Element → ℕ → ℕ
 wide es i = (el es i).width

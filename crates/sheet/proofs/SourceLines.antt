@@ -1,5 +1,5 @@
 -- What the sources give.
-use Rattle.std.proofs.Common.{◌≡◌, ℕ, ◌+◌, ◌*◌, ◌<◌, ◌≤◌, Bool, true, false, cond, eqb, List, [], ◌∷◌, sym, refl, ap, ◌∙◌, true≢false, mul-le-mul, arith}
+use Rattle.std.proofs.Common.{◌≡◌, ℕ, ◌+◌, ◌*◌, ◌≤◌, Bool, true, false, eqb, [], ◌∷◌, sym, refl, ap, ◌∙◌, true≢false, mul-le-mul, arith}
 use Rattle.std.proofs.lemmas.Bool.{cond_both}
 use Rattle.exact.specs.Worked.{Worked, Encloses, gap, exactly}
 use Rattle.exact.proofs.Rounding.{exactly_encloses}
@@ -9,7 +9,7 @@ use Rattle.walking.specs.Laws.{Within, DensityLaw, FlowLaw, Lawful}
 use Rattle.curves.specs.declared.Column.TheVariants.{Flow, Speed}
 use Rattle.curves.specs.Reading.{mega}
 use Rattle.curves.proofs.Readings.{across_encloses, speeds_in_range}
-use Rattle.reading.specs.Sources.{SourceRanges, density, through, source_specific_flow, source_flow, source_speed}
+use Rattle.reading.specs.Sources.{SourceRanges, density, through, source_specific_flow, source_speed}
 use Rattle.reading.proofs.Figures.{density_encloses, through_near, specific_flow_small}
 use Rattle.network.specs.declared.Kind.{Kind}
 use Rattle.network.specs.declared.Kind.TheVariants.{Corridor, Door, StairDown, StairUp}

@@ -1,13 +1,11 @@
 -- The lines, stage after stage, and the network that their flows make.
-use Rattle.std.proofs.Common.{◌≡◌, ℕ, zero, suc, ◌+◌, ◌-◌, ◌*◌, ◌<◌, ◌≤◌, Bool, true, false, cond, eqb, ◌⊎◌, List, map, length, get_or, sym, refl, ap, ◌∙◌, subst, inl, inr, arith}
+use Rattle.std.proofs.Common.{◌≡◌, ℕ, zero, suc, ◌<◌, ◌≤◌, cond, List, length, sym, refl, ap, ◌∙◌, inl, inr, arith}
 use mathlib.Core.Path.{fun_ext}
-use Rattle.std.specs.List.{range_with_len}
 use Rattle.std.proofs.lemmas.List.FromFn.{length-map-range_with_len, get_or-map-range_with_len}
 use Rattle.std.proofs.lemmas.List.{get_or_past}
 use Rattle.std.proofs.lemmas.Bool.{eq-eqb, ne_eqb, cond-true, cond-false, cases_lt, cases_eq}
 use Rattle.walking.specs.Curves.{Tables}
-use Rattle.exact.specs.Worked.{Worked, Encloses, gap}
-use Rattle.network.specs.declared.Kind.{Kind}
+use Rattle.exact.specs.Worked.{Worked}
 use Rattle.network.specs.declared.Element.{Element}
 use Rattle.network.specs.Elements.{no_element, el, leaves}
 use Rattle.sheet.specs.Lines.{idle, at, WorkedLine}

@@ -1,5 +1,5 @@
 -- What comes to a point, and the line of an element that leaves it.
-use Rattle.std.specs.Prelude.{ℕ, ◌-◌, ◌*◌, Bool, cond, List, length, nat_lt}
+use Rattle.std.specs.Prelude.{ℕ, ◌-◌, ◌*◌, List, length, nat_lt}
 use Rattle.exact.specs.Fractions.{scaled, capped}
 use Rattle.exact.specs.Sums.{sum_where}
 use Rattle.exact.specs.Worked.{Worked, exactly, rising, total}
@@ -9,7 +9,7 @@ use Rattle.reading.specs.Sources.{through}
 use Rattle.network.specs.declared.Kind.{Kind}
 use Rattle.network.specs.declared.Kind.TheVariants.{Corridor, Door, StairDown, StairUp}
 use Rattle.network.specs.declared.Element.{Element}
-use Rattle.network.specs.Elements.{el, comes}
+use Rattle.network.specs.Elements.{comes}
 use Rattle.sheet.specs.Lines.{WorkedLine, at}
 use Rattle.sheet.specs.Shares.{width_out}
 

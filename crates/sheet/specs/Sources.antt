@@ -1,5 +1,5 @@
 -- The lines of the sources.
-use Rattle.std.specs.Prelude.{ℕ, ◌*◌, false, cond, ◌==◌}
+use Rattle.std.specs.Prelude.{◌*◌, false, cond, ◌==◌}
 use Rattle.exact.specs.Worked.{Worked, exactly}
 use Rattle.walking.specs.Curves.{Curve, Tables, speed, row_at}
 use Rattle.curves.specs.Reading.{mega}

@@ -1,6 +1,5 @@
 -- An assessment of a closed study against the ledger.
-use Rattle.std.proofs.Common.{◌≡◌, ℕ, ◌+◌, ◌<◌, ◌≤◌, Bool, true, false, cond, eqb, ltb, ◌⊎◌, List, [], ◌∷◌, ◌++◌, length, take, drop, replicate, Some, None, Option, sym, refl, ap, ◌∙◌, subst, inl, inr, append-nil, arith}
-use Rattle.std.specs.List.{range_with_len}
+use Rattle.std.proofs.Common.{◌≡◌, ℕ, ◌<◌, ◌≤◌, Bool, true, false, cond, eqb, ltb, List, [], ◌∷◌, ◌++◌, length, take, drop, replicate, Some, None, Option, sym, refl, ap, ◌∙◌, subst, inl, inr, arith}
 use Rattle.std.proofs.lemmas.List.FromFn.{length-map-range_with_len}
 use Rattle.std.proofs.lemmas.List.{length-replicate}
 use Rattle.std.proofs.lemmas.Bool.{cond-true, cond-false, lt-ltb, le-ltb, ltb-false, eq-eqb, ne_eqb, cases_lt}
@@ -10,10 +9,10 @@ use Rattle.network.specs.declared.CaseData.{CaseData}
 use Rattle.network.specs.declared.Element.{Element}
 use Rattle.network.specs.Tables.{listed}
 use Rattle.network.specs.Refusals.{Answer, accepted, refused}
-use Rattle.network.specs.Sentences.{Sentence, says, first_true}
+use Rattle.network.specs.Sentences.{says, first_true}
 use Rattle.network.specs.Elements.{el}
 use Rattle.network.specs.Ready.{Ready}
-use Rattle.network.proofs.First.{NoneTrue, pass, stop, giving, first_giving, given_is, all_passed}
+use Rattle.network.proofs.First.{pass, stop, giving, first_giving, given_is}
 use Rattle.sheet.specs.declared.Line.{Line}
 use Rattle.sheet.specs.Lines.{at, shown, no_line}
 use Rattle.sheet.specs.Sheet.{sheet, lines, first_thin}

@@ -5,7 +5,7 @@ use Rattle.std.proofs.lemmas.Bool.{false≢true}
 use Rattle.network.specs.declared.Refusal.{Refusal}
 use Rattle.network.specs.Refusals.{accepted, refused, number_of, place_of}
 use Rattle.ledger.specs.Ledger.{Ledger, Request, Reply, Given, nothing, reply, done, by_reply, next, written}
-use Rattle.ledger.specs.Runs.{Event, event, further}
+use Rattle.ledger.specs.Runs.{event, further}
 use Rattle.ledger.specs.Reach.{LawfulLedger}
 use Rattle.ledger.specs.Sound.{SoundReply}
 use Rattle.ledger.proofs.Reaches.{next_lawful}

@@ -4,7 +4,7 @@ use Rattle.network.specs.Refusals.{refused}
 use Rattle.sheet.specs.declared.Line.{Line}
 use Rattle.ledger.specs.Ledger.{Ledger, Request, setting, entering, altering, striking, closing, reopening, assessing, Reply, reply, lines_by, written}
 use Rattle.study.specs.declared.Study.{Study}
-use Rattle.study.specs.Studies.{ledger_of, wrote, FollowsLedger}
+use Rattle.study.specs.Studies.{wrote, FollowsLedger}
 
 -- it writes no lines
 pub keeps_lines : (new old : List Line) → new ≡ [] → old ≡ wrote new old

@@ -1,7 +1,7 @@
 ghost use Rattle.std.specs.Prelude.{◌≡◌, length};
 ghost use Rattle.ledger.specs.Ledger.{assessing, reply, written};
 ghost use Rattle.ledger.specs.declared.Stage.TheVariants.{Closed};
-ghost use Rattle.study.specs.Studies.{ledger_of, told_found, wrote, asked};
+ghost use Rattle.study.specs.Studies.{ledger_of, told_found, wrote, asked, FollowsLedger};
 
 use super::*;
 use routes::find_ends;
@@ -15,6 +15,7 @@ impl Study {
     pub(crate) fn find<B: RuleBook>(&self, book: &B, lines: &mut [Line]) -> Result<Finding, Refusal>
         requires closed { self.now.stage ≡ Closed }
         ensures answered { told_found result ≡ reply (ledger_of self.now) (asked (B.WalkingTables.meaning book.now) (B.RuleBook.rules book.now) (length lines.old)) }
+        ensures follows { FollowsLedger self.now (asked (B.WalkingTables.meaning book.now) (B.RuleBook.rules book.now) (length lines.old)) (told_found result) self.now }
         ensures lines { lines.new ≡ wrote (written (ledger_of self.now) (asked (B.WalkingTables.meaning book.now) (B.RuleBook.rules book.now) (length lines.old))) lines.old }
     {
         let Some(case_data) = self.case else {

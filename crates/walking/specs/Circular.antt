@@ -1,5 +1,5 @@
 -- The tables and rules of the circular, MSC.1/Circ.1238.
-use Rattle.std.specs.Prelude.{ℕ, ◌%◌, cond, ◌&&◌, [], ◌∷◌, ◌==◌, nat_le, nat_lt}
+use Rattle.std.specs.Prelude.{◌%◌, cond, ◌&&◌, [], ◌∷◌, ◌==◌, nat_le, nat_lt}
 use Rattle.walking.specs.Curves.{Tables}
 use Rattle.walking.specs.Rules.{Rules}
 

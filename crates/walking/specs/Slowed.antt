@@ -1,6 +1,6 @@
 -- A slower walk keeps the laws.
-use Rattle.std.specs.Prelude.{◌≡◌, ℕ, ◌+◌, ◌-◌, ◌*◌, ◌/◌, ◌<◌, ◌≤◌, min, max, List, [], ◌∷◌, map, length}
-use Rattle.std.proofs.Common.{ap, sym, ◌∙◌, mul-le-mul_right, mul-le-mul_left, add-mul, arith}
+use Rattle.std.specs.Prelude.{◌≡◌, ℕ, ◌+◌, ◌-◌, ◌*◌, ◌≤◌, min, [], ◌∷◌, map}
+use Rattle.std.proofs.Common.{mul-le-mul_right, mul-le-mul_left, add-mul, arith}
 use Rattle.std.proofs.lemmas.List.{length-map}
 use Rattle.walking.specs.Curves.{Row, Curve, Tables, entry, flow, speed, row_at}
 use Rattle.walking.specs.Laws.{Each, Onward, EachStep, DensityRow, DensityStep, DensityLaw, FlowRow, FlowStep, FlowLaw, Lawful}

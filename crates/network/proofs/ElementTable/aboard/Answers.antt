@@ -1,4 +1,4 @@
-use Rattle.std.proofs.Common.{◌≡◌, ◌+◌, ◌≤◌, length, sym, ap, ◌∙◌, arith, rules}
+use Rattle.std.proofs.Common.{◌≡◌, ◌+◌, length, sym, ap, ◌∙◌, arith, rules}
 use Rattle.exact.specs.Sums.{sum_below}
 use Rattle.exact.proofs.SumLaws.{sum_none, sum_more}
 use Rattle.network.specs.Elements.{el, aboard}

@@ -1,4 +1,4 @@
-use Rattle.std.proofs.Common.{◌≡◌, Ok, Err, ◌∙◌, arith}
+use Rattle.std.proofs.Common.{Ok, Err, ◌∙◌, arith}
 use Rattle.network.specs.declared.Refusal.TheVariants.{LoosePoint}
 use Rattle.network.specs.Tables.{listed}
 use Rattle.network.proofs.Points.{from_first, point_passes, point_stops, points_over, loose_by, exactly_tied}
@@ -19,11 +19,11 @@ returns-then-arrives-departs c =
     let es = listed c.args.self.now in
     let p = c.loop-point.point in
     let loose = loose_by es p c.arrives.result c.departs.result _ c.arrives.ensures c.departs.ensures c.if-arrives-departs.true in
-    let told-so = point_stops es p (omega arith) loose ∙ c.loop-point.invariant in
-    record { answered = told-so; tied = exactly_tied es (Err (LoosePoint p)) told-so }
+    let told_so = point_stops es p (omega arith) loose ∙ c.loop-point.invariant in
+    record { answered = told_so; tied = exactly_tied es (Err (LoosePoint p)) told_so }
 
 pub returns : goal.returns
 returns c =
     let es = listed c.args.self.now in
-    let told-so = points_over es c.loop-point.point (omega arith) ∙ c.loop-point.invariant in
-    record { answered = told-so; tied = exactly_tied es (Ok tt) told-so }
+    let told_so = points_over es c.loop-point.point (omega arith) ∙ c.loop-point.invariant in
+    record { answered = told_so; tied = exactly_tied es (Ok tt) told_so }

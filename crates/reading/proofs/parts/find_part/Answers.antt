@@ -1,4 +1,4 @@
-use Rattle.std.proofs.Common.{◌+◌, ◌∷◌, drop, arith}
+use Rattle.std.proofs.Common.{◌+◌, drop, arith}
 use Rattle.walking.specs.Curves.{curve_of}
 use Rattle.reading.proofs.Going.{start_at, turn_at, here, next, finish}
 use Rattle.reading.proofs.parts.find_part.Goals as goal

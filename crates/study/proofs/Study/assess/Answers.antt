@@ -1,13 +1,11 @@
-use Rattle.std.proofs.Common.{◌≡◌, length, ap}
+use Rattle.std.proofs.Common.{length, ap}
 use Rattle.network.specs.declared.Refusal.TheVariants.{WrongStage}
-use Rattle.ledger.specs.Books.{Book}
 use Rattle.ledger.specs.declared.Stage.TheVariants.{Closed}
 use Rattle.ledger.specs.Ledger.{same_stage, written}
 use Rattle.ledger.proofs.Answering.{out_of_stage}
 use Rattle.study.specs.Studies.{ledger_of, asked}
 use Rattle.study.proofs.Following.{refuses}
 use Rattle.study.proofs.Performing.{keeps_lines, wrong_stage_writes_none}
-use Rattle.study.proofs.Assessments.{assessed}
 use Rattle.study.proofs.Study.assess.Goals as goal
 
 pub returns-in-Open : goal.returns-in-Open
@@ -18,13 +16,4 @@ returns-in-Open g c =
     record {
       follows = refuses s q WrongStage e;
       worksheet = keeps_lines (written (ledger_of s) q) c.args.worksheet.now (wrong_stage_writes_none (ledger_of s) q e);
-    }
-
-pub returns-in-Closed : goal.returns-in-Closed
-returns-in-Closed g c =
-    let s = c.args.self.now in
-    let b : Book = record { tables = g.B.WalkingTables.meaning c.args.book.now; rules = g.B.RuleBook.rules c.args.book.now } in
-    record {
-      follows = assessed s b (length c.args.worksheet.now) _ c.find.ensures.answered;
-      worksheet = c.find.ensures.lines;
     }

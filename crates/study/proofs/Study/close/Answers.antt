@@ -1,4 +1,4 @@
-use Rattle.std.proofs.Common.{◌≡◌, ap}
+use Rattle.std.proofs.Common.{ap}
 use Rattle.network.specs.declared.Refusal.TheVariants.{WrongStage}
 use Rattle.ledger.specs.declared.Stage.TheVariants.{Open}
 use Rattle.ledger.specs.Ledger.{closing, same_stage}

@@ -1,13 +1,12 @@
-use Rattle.std.proofs.Common.{◌≡◌, ◌<◌, ◌≤◌, ◌++◌, length, drop, sym, ap, ◌∙◌, subst, arith}
+use Rattle.std.proofs.Common.{◌<◌, ◌≤◌, ◌++◌, length, drop, ap, ◌∙◌, arith}
 use Rattle.std.proofs.lemmas.Result.{err_from_is_err_and}
 use Rattle.network.specs.Refusals.{accepted, refused, number_of, place_of}
 use Rattle.network.specs.Sentences.{first_true}
-use Rattle.network.specs.Tables.{listed}
 use Rattle.worksheet.specs.Thin.{thin_sentences, worked_out}
 use Rattle.ledger.specs.Books.{Book, finding}
 use Rattle.ledger.specs.Ledger.{found, case_or}
 use Rattle.study.specs.Studies.{ledger_of}
-use Rattle.study.proofs.Assessments.{short_reply, short_lines, worked_reply, worked_lines, accepted_thick, worked_facts, ready_now, case_now, found_is}
+use Rattle.study.proofs.Assessments.{short_reply, short_lines, worked_reply, worked_lines, accepted_thick, worked_facts, ready_now, case_now, found_is, assessed}
 use Rattle.study.proofs.Study.find.Goals as goal
 
 pub returns-in_default : goal.returns-in_default
@@ -18,7 +17,12 @@ returns-then-lines-elements g c =
     let l = ledger_of c.args.self.now in
     let b : Book = record { tables = g.B.WalkingTables.meaning c.args.book.now; rules = g.B.RuleBook.rules c.args.book.now } in
     let short : length c.args.lines.now < length l.elements = omega (arith, ap length c.elements-elements.ensures) in
-    record { answered = short_reply l c.requires.closed b c.args.lines.now short; lines = short_lines l c.requires.closed b c.args.lines.now short }
+    let e = short_reply l c.requires.closed b c.args.lines.now short in
+    record {
+      answered = e;
+      follows = assessed c.args.self.now b (length c.args.lines.now) _ e;
+      lines = short_lines l c.requires.closed b c.args.lines.now short;
+    }
 
 pub work_out-requires : goal.work_out-requires
 work_out-requires g c =
@@ -37,6 +41,7 @@ returns-in_err-work_out g c =
     let p = err_from_is_err_and c.from_residual.result c.from_residual.ensures.1 in
     record {
       answered = rw (p.1, p.2) e;
+      follows = rw (p.1, p.2) (assessed c.args.self.now b (length before) _ e);
       lines = worked_lines l c.requires.closed b before room c.work_out.new.sheet (c.in_err-work_out.ensures.written ∙ ap (λ x. worked_out t x ++ drop (length x) before) same);
     }
 
@@ -64,7 +69,9 @@ returns g c =
     let r = c.find_ends-ends.result in
     let f = found_is b c.in-Some.case_data s.case xs r.lower r.upper r.governing c.judge.result c.in-Some.is (c.find_ends-ends.ensures.lower t w) (c.find_ends-ends.ensures.upper t w) (c.find_ends-ends.ensures.governing t w) c.judge.ensures in
     let e = worked_reply l c.requires.closed b before room (accepted tt) (c.in_ok-work_out.ensures.answered ∙ ap (λ x. first_true (thin_sentences t x) tt) same) in
+    let told_so = ap (λ k. accepted (found k)) (f ∙ ap (λ x. finding b (case_or s.case) x) same) ∙ e in
     record {
-      answered = ap (λ k. accepted (found k)) (f ∙ ap (λ x. finding b (case_or s.case) x) same) ∙ e;
+      answered = told_so;
+      follows = assessed s b (length before) _ told_so;
       lines = worked_lines l c.requires.closed b before room c.work_out.new.sheet (c.in_ok-work_out.ensures.written ∙ ap (λ x. worked_out t x ++ drop (length x) before) same);
     }

@@ -1,5 +1,4 @@
-use Rattle.std.proofs.Common.{◌≡◌, None, sym, ap, subst}
-use Rattle.network.specs.Tables.{listed}
+use Rattle.std.proofs.Common.{None, sym, ap, subst}
 use Rattle.ledger.specs.declared.Stage.TheVariants.{Open}
 use Rattle.ledger.specs.Ledger.{ledger_with}
 use Rattle.ledger.specs.Reach.{LawfulLedger}

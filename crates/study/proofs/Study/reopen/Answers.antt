@@ -1,4 +1,4 @@
-use Rattle.std.proofs.Common.{◌≡◌, refl, ap}
+use Rattle.std.proofs.Common.{refl, ap}
 use Rattle.network.specs.declared.Refusal.TheVariants.{WrongStage}
 use Rattle.ledger.specs.declared.Stage.TheVariants.{Closed}
 use Rattle.ledger.specs.Ledger.{reopening, same_stage}
