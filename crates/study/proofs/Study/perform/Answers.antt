@@ -1,16 +1,13 @@
 use Rattle.std.proofs.Common.{◌≡◌, false, [], length, refl, rules}
 use Rattle.std.proofs.lemmas.Result.{err_from_is_err_and}
 use Rattle.network.specs.declared.Refusal.TheVariants.{WrongStage}
-use Rattle.network.specs.Refusals.{accepted, refused, number_of, place_of}
-use Rattle.ledger.specs.Books.{Book}
-use Rattle.ledger.specs.Ledger.{setting, entering, altering, striking, closing, reopening, found, needed, same_stage, written}
+use Rattle.ledger.specs.Ledger.{setting, entering, altering, striking, closing, reopening, needed, same_stage, written}
 use Rattle.ledger.proofs.Reaches.{every_run_is_lawful}
 use Rattle.ledger.proofs.Soundness.{every_run_is_sound}
 use Rattle.ledger.proofs.Answering.{in_stage, out_of_stage}
 use Rattle.study.specs.Studies.{ledger_of, request_of}
 use Rattle.study.proofs.Following.{refuses, accepts, stays_lawful}
 use Rattle.study.proofs.Performing.{keeps_lines, replies, wrong_stage_writes_none}
-use Rattle.study.proofs.Assessments.{assessed}
 use Rattle.study.proofs.Study.perform.Goals as goal
 
 pub invariant_of-self : goal.invariant_of-self
@@ -107,16 +104,11 @@ returns-in-Closed-Set g c =
 
 pub returns-in_err-find-in-Closed-Assess : goal.returns-in_err-find-in-Closed-Assess
 returns-in_err-find-in-Closed-Assess g c =
-    let s = c.args.self.now in
-    let b : Book = record { tables = g.B.WalkingTables.meaning c.in-Closed-Assess.book.now; rules = g.B.RuleBook.rules c.in-Closed-Assess.book.now } in
-    let y = c.in_err-find-in-Closed-Assess.field-0.0 in
-    let f = assessed s b (length c.args.worksheet.now) (refused (number_of y) (place_of y)) c.in_err-find-in-Closed-Assess.ensures.answered in
     let p = err_from_is_err_and c.from_residual.result c.from_residual.ensures.1 in
-    rw (c.in-Closed-Assess.is-1, p.1, p.2) (record { follows = f; worksheet = c.in_err-find-in-Closed-Assess.ensures.lines; reachable = every_run_is_lawful; sound = every_run_is_sound })
+    let found_so = c.in_err-find-in-Closed-Assess.ensures in
+    rw (c.in-Closed-Assess.is-1, p.1, p.2) (record { follows = found_so.follows; worksheet = found_so.lines; reachable = every_run_is_lawful; sound = every_run_is_sound })
 
 pub returns-in_ok-find-in-Closed-Assess : goal.returns-in_ok-find-in-Closed-Assess
 returns-in_ok-find-in-Closed-Assess g c =
-    let s = c.args.self.now in
-    let b : Book = record { tables = g.B.WalkingTables.meaning c.in-Closed-Assess.book.now; rules = g.B.RuleBook.rules c.in-Closed-Assess.book.now } in
-    let f = assessed s b (length c.args.worksheet.now) (accepted (found c.in_ok-find-in-Closed-Assess.field-0)) c.in_ok-find-in-Closed-Assess.ensures.answered in
-    rw c.in-Closed-Assess.is-1 (record { follows = f; worksheet = c.in_ok-find-in-Closed-Assess.ensures.lines; reachable = every_run_is_lawful; sound = every_run_is_sound })
+    let found_so = c.in_ok-find-in-Closed-Assess.ensures in
+    rw c.in-Closed-Assess.is-1 (record { follows = found_so.follows; worksheet = found_so.lines; reachable = every_run_is_lawful; sound = every_run_is_sound })
