@@ -81,16 +81,6 @@ up_by_one n d z h = quotient_is (n / d + 1) (n + (d - 1)) d z (omega arith) (ome
 pub up_by_none : (n d : ℕ) → 0 < d → n % d ≤ 0 → n / d + 0 ≡ (n + (d - 1)) / d
 up_by_none n d z h = let e : n / d + 0 ≡ n / d = omega arith in e ∙ quotient_is (n / d) (n + (d - 1)) d z (omega arith) (omega arith)
 
--- and it does not pass the dividend
-quotient_times : (q d : ℕ) → 0 < d → q ≤ q * d
-quotient_times q d z = omega (arith, mul-le-mul_left q z)
-
-pub quotient_fits : (n d : ℕ) → 0 < d → n / d + 0 ≤ n
-quotient_fits n d z = omega (arith, quotient_times (n / d) d z, div-mul-le_self n d)
-
-pub one_more_fits : (n d : ℕ) → 0 < d → 0 < n % d → n / d + 1 ≤ n
-one_more_fits n d z h = omega (arith, quotient_times (n / d) d z)
-
 pub exactly_encloses : (n : ℕ) → Encloses (exactly n)
 exactly_encloses n = record { proper = omega arith; low = omega arith; high = omega arith }
 

@@ -1,5 +1,5 @@
 -- A quantity worked three ways at once: rounded down, rounded up, and exactly.
-use Rattle.std.specs.Prelude.{◌≡◌, ℕ, zero, suc, ◌-◌, ◌≤◌, Bool, cond}
+use Rattle.std.specs.Prelude.{◌≡◌, ℕ, zero, suc, ◌-◌, ◌^◌, ◌<◌, ◌≤◌, Bool, cond}
 use Rattle.exact.specs.declared.Ends.{Ends}
 use Rattle.exact.specs.Fractions.{Fraction, Proper, ◌≤ᶠ◌, whole, plus, floor, ceiling}
 use Rattle.exact.specs.Sums.{sum_where}
@@ -48,6 +48,10 @@ rising f w = record { lower = floor (f (whole w.lower)); upper = ceiling (f (who
 
 abbrev pub falling : (Fraction → Fraction) → Worked → Worked
 falling f w = record { lower = floor (f (whole w.upper)); upper = ceiling (f (whole w.lower)); exact = f w.exact }
+
+-- a program's answers at whole numbers are those of a formula, rounded both ways
+abbrev pub Computes : (ℕ → Ends → Type 0) → (Fraction → Fraction) → Type 0
+Computes post f = (n : ℕ) (r : Ends) → n < 2 ^ 64 → post n r → r ≡ ends (rounded (f (whole n)))
 
 -- a proper fraction, m at least
 abbrev pub From : ℕ → Fraction → Type 0

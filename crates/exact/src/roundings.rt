@@ -17,11 +17,7 @@ impl Quotient {
         ensures value { floor (fraction self) + result ≡ ceiling (fraction self) }
         ensures small { floor (fraction self) + result ≤ self.dividend }
     {
-        if self.dividend % self.divisor > 0 {
-            1
-        } else {
-            0
-        }
+        u64::from(self.dividend % self.divisor > 0)
     }
 
     pub fn rounded_up(self) -> u64
