@@ -3,7 +3,7 @@
 ghost use Rattle.curves.specs.Laws.{DensityReadsAmid, AcrossEncloses, SpeedFalls, SpeedFallsSlowly, FallingEncloses, SpeedsInRange, ColumnsInRange};
 
 // A column of a curve that is read at its entries.
-#[derive(Clone, Copy)]
+#[derive(Clone, Copy, PartialEq, Eq, Debug)]
 pub enum Column {
     Flow,
     Speed,

@@ -1,10 +1,38 @@
+ghost use Rattle.std.specs.Prelude.{◌≡◌};
+ghost use Rattle.walking.specs.Curves.{curve_of};
 ghost use Rattle.walking.specs.Circular.{circular, circular_rules};
 ghost use Rattle.std.proofs.Common.{rules};
 
-use super::{RuleBook, WalkingTables};
+use super::{Row, RuleBook, WalkingTables};
+
+const DENSITY: [Row; 5] = [
+    (0, 0, 1200),
+    (500, 650, 1200),
+    (1900, 1300, 670),
+    (3200, 650, 200),
+    (3500, 320, 100),
+];
+
+const CORRIDOR: [Row; 3] = [(0, 0, 1200), (650, 650, 1200), (1300, 1300, 670)];
+
+const STAIR_DOWN: [Row; 3] = [(0, 0, 1000), (540, 540, 1000), (1100, 1100, 550)];
+
+const STAIR_UP: [Row; 3] = [(0, 0, 800), (430, 430, 800), (880, 880, 440)];
+
+// The rows of curve 1 to 4; any other number counts as the nearest.
+fn curve_rows(curve: u8) -> &'static [Row]
+    ensures { result.now ≡ curve_of circular curve }
+{
+    match curve {
+        0 | 1 => &DENSITY,
+        2 => &CORRIDOR,
+        3 => &STAIR_DOWN,
+        _ => &STAIR_UP,
+    }
+}
 
 // The circular's own tables and rules.
-#[derive(Clone, Copy)]
+#[derive(Clone, Copy, Debug)]
 pub struct Circular;
 
 impl WalkingTables for Circular {
@@ -13,26 +41,12 @@ impl WalkingTables for Circular {
     ghost lawful = { Prim.search rules };
 
     fn rows(&self, curve: u8) -> usize {
-        if curve <= 1 { 5 } else { 3 }
+        curve_rows(curve).len()
     }
 
-    fn row(&self, curve: u8, i: usize) -> (u32, u32, u32) {
-        match (curve, i) {
-            (0 | 1, 0) => (0, 0, 1200),
-            (0 | 1, 1) => (500, 650, 1200),
-            (0 | 1, 2) => (1900, 1300, 670),
-            (0 | 1, 3) => (3200, 650, 200),
-            (0 | 1, _) => (3500, 320, 100),
-            (2, 0) => (0, 0, 1200),
-            (2, 1) => (650, 650, 1200),
-            (2, _) => (1300, 1300, 670),
-            (3, 0) => (0, 0, 1000),
-            (3, 1) => (540, 540, 1000),
-            (3, _) => (1100, 1100, 550),
-            (_, 0) => (0, 0, 800),
-            (_, 1) => (430, 430, 800),
-            (_, _) => (880, 880, 440),
-        }
+    fn row(&self, curve: u8, i: usize) -> Row {
+        let rows = curve_rows(curve);
+        rows[i.min(rows.len() - 1)]
     }
 
     fn door_flow(&self) -> u32 {

@@ -3,9 +3,12 @@ ghost use Rattle.walking.specs.Curves.{Tables, curve_of, row_of};
 ghost use Rattle.walking.specs.Laws.{Lawful};
 ghost use Rattle.walking.specs.Rules.{Rules, InRange, response_of, factor_of, limit_of};
 
+// Entry, flow and speed of a curve, in thousandths. A plain tuple: what every rule book answers with.
+pub type Row = (u32, u32, u32);
+
 // Four curves of walking and a door flow. Curve 1 is by density, curves 2 to 4, for corridors, stairs down and
 // stairs up, are by specific flow; all numbers are thousandths. A question outside its range is answered as for the
-// nearest number in range.
+// nearest number in range: so curves are asked for by number, and not by an enum, which would leave no such question.
 pub trait WalkingTables {
     ghost meaning: { Self → Tables };
 
@@ -14,7 +17,7 @@ pub trait WalkingTables {
         ensures { result ≡ length (curve_of (meaning self.now) curve) };
 
     // row i of a curve, counted from 0: entry, flow and speed
-    fn row(&self, curve: u8, i: usize) -> (u32, u32, u32)
+    fn row(&self, curve: u8, i: usize) -> Row
         ensures { result ≡ row_of (meaning self.now) curve i };
 
     // the specific flow of a door that is crowded
@@ -25,7 +28,7 @@ pub trait WalkingTables {
 }
 
 // Walking tables with what decides over a time. A question outside its range is answered as for the nearest number
-// in range.
+// in range: so cases and ship kinds too are asked for by number.
 pub trait RuleBook: WalkingTables {
     ghost rules: { Self → Rules };
 

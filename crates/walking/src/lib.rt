@@ -5,5 +5,5 @@ mod interfaces;
 mod slower_walk;
 
 pub use circular_book::Circular;
-pub use interfaces::{RuleBook, WalkingTables};
+pub use interfaces::{Row, RuleBook, WalkingTables};
 pub use slower_walk::SlowerWalk;

@@ -4,7 +4,7 @@ ghost use Rattle.walking.specs.Slower.{slower, slowed, slow_row as slowed_row};
 ghost use Rattle.walking.specs.Slowed.{slower_lawful};
 ghost use Rattle.std.proofs.Common.{rules};
 
-use super::{RuleBook, WalkingTables};
+use super::{Row, RuleBook, WalkingTables};
 
 // A rule book with each speed taken times a per mille, rounded down and lifted to at least 100; the rest is that of
 // the rule book below. A per mille above 1,000 counts as 1,000.
@@ -21,7 +21,7 @@ fn slow_down(full: u32, per_mille: u32) -> u32
     (full * per_mille.min(1000) / 1000).max(100)
 }
 
-fn slow_row(row: (u32, u32, u32), per_mille: u32) -> (u32, u32, u32)
+fn slow_row(row: Row, per_mille: u32) -> Row
     requires { speed row ≤ 2000 }
     ensures { result ≡ slowed_row per_mille row }
 {
@@ -37,7 +37,7 @@ impl<B: WalkingTables> WalkingTables for SlowerWalk<B> {
         self.below.rows(curve)
     }
 
-    fn row(&self, curve: u8, i: usize) -> (u32, u32, u32) {
+    fn row(&self, curve: u8, i: usize) -> Row {
         slow_row(self.below.row(curve, i), self.per_mille)
     }
 
