@@ -13,11 +13,11 @@ use walking::WalkingTables;
 pub fn read_column<T: WalkingTables>(tables: &T, curve: u8, column: Column, quantity: u64) -> Ends
     ensures { result ≡ ends (rounded (read (values column) (curve_of (T.WalkingTables.meaning tables.now) curve) (whole quantity))) }
 {
-    let part = parts::find_part(tables, curve, quantity);
-    parts::read_in_part(part, column, quantity)
+    parts::find_part(tables, curve, quantity).read(column, quantity)
 }
 
-// A column of curve 1 between two ends of the density: the smaller reading rounded down, the greater rounded up.
+// A column of curve 1 between two ends of the density: the smaller reading rounded down, the greater rounded up. Curve 1
+// may rise and fall, so neither end of the density gives the smaller one by itself.
 pub fn read_across<T: WalkingTables>(tables: &T, column: Column, density: Ends) -> Ends
     ensures { (x : Fraction) → result ≡ ends (across (values column) (T.WalkingTables.meaning tables.now).density (around density x)) }
 {
@@ -33,10 +33,5 @@ pub fn read_across<T: WalkingTables>(tables: &T, column: Column, density: Ends) 
 pub fn read_falling<T: WalkingTables>(tables: &T, curve: u8, specific_flow: Ends) -> Ends
     ensures { (x : Fraction) → result ≡ ends (falling (curve_of (T.WalkingTables.meaning tables.now) curve) (around specific_flow x)) }
 {
-    let slowest = read_column(tables, curve, Column::Speed, specific_flow.upper);
-    let fastest = read_column(tables, curve, Column::Speed, specific_flow.lower);
-    Ends {
-        lower: slowest.lower,
-        upper: fastest.upper,
-    }
+    specific_flow.falling(|quantity| read_column(tables, curve, Column::Speed, quantity))
 }

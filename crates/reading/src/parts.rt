@@ -7,19 +7,20 @@ ghost use Rattle.reading.specs.Parts.{Found, FitsPart, read_part};
 
 use curves::Column;
 use exact::{Ends, Quotient};
-use walking::WalkingTables;
+use walking::{Row, WalkingTables};
 
 // The rows that a quantity lies between, or the last row if it is past that.
-#[derive(Clone, Copy)]
+#[derive(Clone, Copy, PartialEq, Eq, Debug)]
 pub(crate) enum Part {
-    Between((u32, u32, u32), (u32, u32, u32)),
-    Past((u32, u32, u32)),
+    Between(Row, Row),
+    Past(Row),
 }
 
 pub(crate) fn find_part<T: WalkingTables>(tables: &T, curve: u8, quantity: u64) -> Part
     ensures { Found (curve_of (T.WalkingTables.meaning tables.now) curve) quantity result }
 {
     let mut before = tables.row(curve, 0);
+    // by number, since a rule book answers rows and lends none
     for i in 1..tables.rows(curve) {
         let row = tables.row(curve, i);
         if quantity <= row.0 as u64 * 1_000_000 {
@@ -56,7 +57,7 @@ fn weighted_mean(before: u32, after: u32, left: u64, passed: u64, step: u64) -> 
     .rounded_both_ways()
 }
 
-fn value(row: (u32, u32, u32), column: Column) -> u32
+fn value(row: Row, column: Column) -> u32
     ensures { result ≡ values column row }
 {
     match column {
@@ -65,24 +66,21 @@ fn value(row: (u32, u32, u32), column: Column) -> u32
     }
 }
 
-pub(crate) fn read_in_part(part: Part, column: Column, quantity: u64) -> Ends
-    requires { FitsPart part quantity }
-    ensures { result ≡ ends (rounded (read_part (values column) part (whole quantity))) }
-{
-    match part {
-        Part::Between(before, after) => weighted_mean(
-            value(before, column),
-            value(after, column),
-            after.0 as u64 * 1_000_000 - quantity,
-            quantity - before.0 as u64 * 1_000_000,
-            (after.0 - before.0) as u64,
-        ),
-        Part::Past(last) => {
-            let whole = value(last, column) as u64 * 1_000_000;
-            Ends {
-                lower: whole,
-                upper: whole,
-            }
+impl Part {
+    // A column at a quantity that lies in this part.
+    pub(crate) fn read(self, column: Column, quantity: u64) -> Ends
+        requires { FitsPart self quantity }
+        ensures { result ≡ ends (rounded (read_part (values column) self (whole quantity))) }
+    {
+        match self {
+            Part::Between(before, after) => weighted_mean(
+                value(before, column),
+                value(after, column),
+                after.0 as u64 * 1_000_000 - quantity,
+                quantity - before.0 as u64 * 1_000_000,
+                (after.0 - before.0) as u64,
+            ),
+            Part::Past(last) => Ends::exactly(value(last, column) as u64 * 1_000_000),
         }
     }
 }

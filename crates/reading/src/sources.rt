@@ -10,7 +10,7 @@ use exact::{Ends, Quotient};
 use walking::WalkingTables;
 
 // A corridor in which persons stand at the start; width and length in millimetres.
-#[derive(Clone, Copy)]
+#[derive(Clone, Copy, PartialEq, Eq, Debug)]
 pub struct SourceCorridor {
     pub persons: u32,
     pub width: u32,
@@ -21,7 +21,7 @@ pub struct SourceCorridor {
 }
 
 // What such a corridor gives: density, flows and speed in billionths.
-#[derive(Clone, Copy)]
+#[derive(Clone, Copy, PartialEq, Eq, Debug)]
 pub struct SourceFigures {
     pub density: Ends,
     pub specific_flow: Ends,
@@ -34,10 +34,10 @@ impl SourceCorridor {
     pub fn new(persons: u32, width: u32, length: u32) -> Option<SourceCorridor>
         ensures { MatchOption result (SourceRanges persons width length → ⊥) (λ c. (c.persons ≡ persons) × (c.width ≡ width) × (c.length ≡ length)) }
     {
-        let crowded = persons > 8_000;
-        let wide = 500 <= width && width <= 10_000;
-        let long = 100 <= length && length <= 100_000;
-        if crowded || !wide || !long {
+        let few = persons <= 8_000;
+        let wide = (500..=10_000).contains(&width);
+        let long = (100..=100_000).contains(&length);
+        if !(few && wide && long) {
             return None;
         }
         Some(SourceCorridor {
@@ -83,16 +83,5 @@ pub fn flow_through(width: u32, specific_flow: Ends) -> Ends
     requires upper { specific_flow.upper ≤ 2000000000 }
     ensures { (x : Fraction) → result ≡ ends (through width (around specific_flow x)) }
 {
-    let lower = Quotient {
-        dividend: specific_flow.lower * width as u64,
-        divisor: 1000,
-    };
-    let upper = Quotient {
-        dividend: specific_flow.upper * width as u64,
-        divisor: 1000,
-    };
-    Ends {
-        lower: lower.rounded_down(),
-        upper: upper.rounded_up(),
-    }
+    specific_flow.scaled(width as u64, 1000)
 }
