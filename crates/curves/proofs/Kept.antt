@@ -1,8 +1,8 @@
 -- The laws of walking tables, column by column, as reading wants them.
-use Rattle.std.proofs.Common.{◌≡◌, ℕ, List, [], ◌∷◌, arith}
-use Rattle.walking.specs.Curves.{Row, Curve, entry, flow, speed}
+use Rattle.std.proofs.Common.{◌≡◌, ℕ, ◌≤◌, List, [], ◌∷◌, length, arith}
+use Rattle.walking.specs.Curves.{Row, Curve, entry, flow, speed, row_at}
 use Rattle.walking.specs.Laws.{Within, Each, DensityRow, DensityStep, DensityLaw, FlowRow, FlowStep, FlowLaw}
-use Rattle.walking.specs.Laws.{Onward as EachStep}
+use Rattle.walking.specs.Laws.{Onward as EachStep, EachStep as CurveSteps}
 use Rattle.curves.specs.declared.Column.{Column}
 use Rattle.curves.specs.declared.Column.TheVariants.{Flow, Speed}
 use Rattle.curves.specs.Reading.{values}
@@ -26,16 +26,15 @@ pub record Gentle (col : Row → ℕ) (a : Row) (rest : List Row) : Type 0 where
   pub rises : EachStep Rises a rest
   pub gently : EachStep (Gently col) a rest
 
+gently_step : (k : Column) (x y : Row) → DensityStep x y → Gently (values k) x y
+gently_step Flow x y h = h.flow_apart
+gently_step Speed x y h = h.speed_apart
+
 pub gentle : (k : Column) (a : Row) (rest : List Row) → DensityLaw (a ∷ rest) → Gentle (values k) a rest
-gentle Flow a rest l = record {
+gentle k a rest l = record {
   zero_first = l.starts;
   rises = steps_so DensityStep Rises (λ x y h. h.rises) a rest l.steps;
-  gently = steps_so DensityStep (Gently flow) (λ x y h. h.flow_apart) a rest l.steps;
-}
-gentle Speed a rest l = record {
-  zero_first = l.starts;
-  rises = steps_so DensityStep Rises (λ x y h. h.rises) a rest l.steps;
-  gently = steps_so DensityStep (Gently speed) (λ x y h. h.speed_apart) a rest l.steps;
+  gently = steps_so DensityStep (Gently (values k)) (gently_step k) a rest l.steps;
 }
 
 -- the speeds of a curve by specific flow
@@ -59,51 +58,35 @@ pub record Ranged (lo hi : ℕ) (col : Row → ℕ) (a : Row) (rest : List Row) 
   pub rises : EachStep Rises a rest
   pub within : Each (In lo hi col) (a ∷ rest)
 
-density_speeds : (a : Row) (rest : List Row) → DensityLaw (a ∷ rest) → Ranged 100 2000 speed a rest
-density_speeds a rest l = record {
-  zero_first = l.starts;
-  rises = steps_so DensityStep Rises (λ x y h. h.rises) a rest l.steps;
-  within = each_so DensityRow (In 100 2000 speed) (λ x h. h.speeds) (a ∷ rest) l.rows;
-}
-
-density_flows : (a : Row) (rest : List Row) → DensityLaw (a ∷ rest) → Ranged 0 2000 flow a rest
-density_flows a rest l = record {
-  zero_first = l.starts;
-  rises = steps_so DensityStep Rises (λ x y h. h.rises) a rest l.steps;
-  within = each_so DensityRow (In 0 2000 flow) (λ x h. (omega arith, h.flows)) (a ∷ rest) l.rows;
-}
-
-flow_speeds : (a : Row) (rest : List Row) → FlowLaw (a ∷ rest) → Ranged 100 2000 speed a rest
-flow_speeds a rest l = record {
-  zero_first = l.starts;
-  rises = steps_so FlowStep Rises (λ x y h. h.rises) a rest l.steps;
-  within = each_so FlowRow (In 100 2000 speed) (λ x h. h.speeds) (a ∷ rest) l.rows;
-}
-
-flow_flows : (a : Row) (rest : List Row) → FlowLaw (a ∷ rest) → Ranged 0 2000 flow a rest
-flow_flows a rest l = record {
-  zero_first = l.starts;
-  rises = steps_so FlowStep Rises (λ x y h. h.rises) a rest l.steps;
-  within = each_so FlowRow (In 0 2000 flow) (λ x h. (omega arith, omega (arith, h.same, h.ends))) (a ∷ rest) l.rows;
-}
-
 -- the same of a whole curve, which has rows
 abbrev pub RangedCurve : ℕ → ℕ → (Row → ℕ) → Curve → Type 0
 RangedCurve lo hi col [] = ⊥
 RangedCurve lo hi col (a ∷ rest) = Ranged lo hi col a rest
 
+-- a curve whose rows and steps keep laws that give the range and the rise
+ranged : (P : Row → Type 0) (S : Row → Row → Type 0) (lo hi : ℕ) (col : Row → ℕ) → ((x : Row) → P x → In lo hi col x) → ((x y : Row) → S x y → Rises x y)
+    → (c : Curve) → 2 ≤ length c → entry (row_at c 0) ≡ 0 → Each P c → CurveSteps S c → RangedCurve lo hi col c
+ranged P S lo hi col within rises [] few zero rows steps = omega (arith, few)
+ranged P S lo hi col within rises (a ∷ rest) few zero rows steps = record {
+  zero_first = zero;
+  rises = steps_so S Rises rises a rest steps;
+  within = each_so P (In lo hi col) within (a ∷ rest) rows;
+}
+
+by_density : (lo hi : ℕ) (col : Row → ℕ) → ((x : Row) → DensityRow x → In lo hi col x) → (c : Curve) → DensityLaw c → RangedCurve lo hi col c
+by_density lo hi col within c l = ranged DensityRow DensityStep lo hi col within (λ x y h. h.rises) c l.few.0 l.starts l.rows l.steps
+
+by_flow : (lo hi : ℕ) (col : Row → ℕ) → ((x : Row) → FlowRow x → In lo hi col x) → (c : Curve) → FlowLaw c → RangedCurve lo hi col c
+by_flow lo hi col within c l = ranged FlowRow FlowStep lo hi col within (λ x y h. h.rises) c l.few.0 l.starts l.rows l.steps
+
 pub speeds_of_density : (c : Curve) → DensityLaw c → RangedCurve 100 2000 speed c
-speeds_of_density [] l = omega (arith, l.few.0)
-speeds_of_density (a ∷ rest) l = density_speeds a rest l
+speeds_of_density c l = by_density 100 2000 speed (λ x h. h.speeds) c l
 
 pub flows_of_density : (c : Curve) → DensityLaw c → RangedCurve 0 2000 flow c
-flows_of_density [] l = omega (arith, l.few.0)
-flows_of_density (a ∷ rest) l = density_flows a rest l
+flows_of_density c l = by_density 0 2000 flow (λ x h. (omega arith, h.flows)) c l
 
 pub speeds_of_flow : (c : Curve) → FlowLaw c → RangedCurve 100 2000 speed c
-speeds_of_flow [] l = omega (arith, l.few.0)
-speeds_of_flow (a ∷ rest) l = flow_speeds a rest l
+speeds_of_flow c l = by_flow 100 2000 speed (λ x h. h.speeds) c l
 
 pub flows_of_flow : (c : Curve) → FlowLaw c → RangedCurve 0 2000 flow c
-flows_of_flow [] l = omega (arith, l.few.0)
-flows_of_flow (a ∷ rest) l = flow_flows a rest l
+flows_of_flow c l = by_flow 0 2000 flow (λ x h. (omega arith, omega (arith, h.same, h.ends))) c l

@@ -84,11 +84,15 @@ up_by_none n d z h = let e : n / d + 0 ≡ n / d = omega arith in e ∙ quotient
 pub exactly_encloses : (n : ℕ) → Encloses (exactly n)
 exactly_encloses n = record { proper = omega arith; low = omega arith; high = omega arith }
 
+-- what lies between two fractions lies between the roundings that lead away from it
+enclosed : (p x q : Fraction) → Proper p → Proper x → Proper q → p ≤ᶠ x → x ≤ᶠ q → Encloses (record { lower = floor p; upper = ceiling q; exact = x })
+enclosed p x q below proper above low high =
+    let a = floor_le p x below low in
+    let b = ceiling_ge q x above high in
+    record { proper = proper; low = omega arith; high = omega arith }
+
 pub rounded_encloses : RoundedEncloses
-rounded_encloses x z =
-    let a = floor_le x x z (omega arith) in
-    let b = ceiling_ge x x z (omega arith) in
-    (record { proper = z; low = omega arith; high = omega arith }, omega (arith, round_near x z))
+rounded_encloses x z = (enclosed x x x z z z (omega arith) (omega arith), omega (arith, round_near x z))
 
 lower_le : (l u n d : ℕ) → 0 < d → l * d ≤ n * 1 → n * 1 ≤ u * d → l ≤ u
 lower_le l u n d z a b = let g : l * d ≤ u * d = omega arith in le_of_mul-le-mul_right g z
@@ -114,15 +118,11 @@ rising_encloses m f w r h e =
     let l = from_lower m w h e in
     let u = from_upper m w h e in
     let x = from_exact m w h e in
-    let a = floor_le (f (whole w.lower)) (f w.exact) (r.proper _ l) (r.order _ _ l x e.low) in
-    let b = ceiling_ge (f (whole w.upper)) (f w.exact) (r.proper _ u) (r.order _ _ x u e.high) in
-    record { proper = r.proper _ x; low = omega arith; high = omega arith }
+    enclosed (f (whole w.lower)) (f w.exact) (f (whole w.upper)) (r.proper _ l) (r.proper _ x) (r.proper _ u) (r.order _ _ l x e.low) (r.order _ _ x u e.high)
 
 pub falling_encloses : FallingEncloses
 falling_encloses m f w r h e =
     let l = from_lower m w h e in
     let u = from_upper m w h e in
     let x = from_exact m w h e in
-    let a = floor_le (f (whole w.upper)) (f w.exact) (r.proper _ u) (r.order _ _ x u e.high) in
-    let b = ceiling_ge (f (whole w.lower)) (f w.exact) (r.proper _ l) (r.order _ _ l x e.low) in
-    record { proper = r.proper _ x; low = omega arith; high = omega arith }
+    enclosed (f (whole w.upper)) (f w.exact) (f (whole w.lower)) (r.proper _ u) (r.proper _ x) (r.proper _ l) (r.order _ _ x u e.high) (r.order _ _ l x e.low)
