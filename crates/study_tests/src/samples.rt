@@ -53,18 +53,12 @@ pub fn doors(widths: &[u32]) -> Study {
     study
 }
 
-// The width of the element with this number, 0 where there is none.
-pub fn width(study: &Study, number: u32) -> u32 {
-    match study.element(number) {
-        Some(element) => element.width,
-        None => 0,
-    }
+// The width of the element with this number.
+pub fn width(study: &Study, number: u32) -> Option<u32> {
+    study.element(number).map(|element| element.width)
 }
 
-// A refusal's number and place, and (0, 0) for acceptance.
-pub fn told(res: Result<(), Refusal>) -> (u8, u32) {
-    match res {
-        Ok(()) => (0, 0),
-        Err(refusal) => (refusal.number(), refusal.place()),
-    }
+// What a call answered, with a refusal by its number and place.
+pub fn told(answer: Result<(), Refusal>) -> Result<(), (u8, u32)> {
+    answer.map_err(|refusal| (refusal.number(), refusal.place()))
 }
