@@ -1,45 +1,46 @@
 use crate::samples::*;
-use network::{Draft, Refusal};
+use exact::Ends;
+use network::{CaseData, Draft, Refusal};
 use sheet::Line;
 use study::Study;
-use verdicts::Finding;
+use verdicts::{Finding, Verdict};
 use walking::{Circular, SlowerWalk};
+use zones::{FIRST_ZONE, SECOND_ZONE};
 
-const MEETS: u8 = 1;
+// A finding, or the number and the place of a refusal.
+type Told = Result<Finding, (u8, u32)>;
 
-const EXCEEDS: u8 = 2;
-
-// Verdict, lower end, upper end, governing element; for a refusal its number and its place.
-fn told(found: Result<Finding, Refusal>) -> (u8, u64, u64, u8) {
-    match found {
-        Ok(finding) => (
-            finding.verdict.number(),
-            finding.lower,
-            finding.upper,
-            finding.governing,
-        ),
-        Err(refusal) => (0, refusal.number() as u64, refusal.place() as u64, 0),
-    }
+fn told(found: Result<Finding, Refusal>) -> Told {
+    found.map_err(|refusal| (refusal.number(), refusal.place()))
 }
 
-fn assessed(study: &Study) -> (u8, u64, u64, u8) {
-    let mut lines = [NO_LINE; 64];
+fn finding(verdict: Verdict, lower: u64, upper: u64, governing: u8) -> Told {
+    let time = Ends { lower, upper };
+    Ok(Finding {
+        verdict,
+        time,
+        governing,
+    })
+}
+
+fn assessed(study: &Study) -> Told {
+    let mut lines = [Line::default(); 64];
     told(study.assess(&Circular, &mut lines))
 }
 
 #[test]
 fn first_zone_is_governed_by_the_last_stair_up(rt: HostRuntime) {
     assert_eq!(rt;
-        assessed(&first_study()),
-        (MEETS, 192_069_501, 192_069_509, 28)
+        assessed(&closed(NIGHT, &FIRST_ZONE)),
+        finding(Verdict::Meets, 192_069_501, 192_069_509, 28)
     );
 }
 
 #[test]
 fn second_zone_is_governed_by_stair_c_of_deck_7(rt: HostRuntime) {
     assert_eq!(rt;
-        assessed(&second_study()),
-        (MEETS, 175_252_187, 175_252_191, 14)
+        assessed(&closed(DAY, &SECOND_ZONE)),
+        finding(Verdict::Meets, 175_252_187, 175_252_191, 14)
     );
 }
 
@@ -49,9 +50,12 @@ fn slower_walk_takes_longer(rt: HostRuntime) {
         below: Circular,
         per_mille: 800,
     };
-    let mut lines = [NO_LINE; 21];
-    let found = second_study().assess(&slower, &mut lines);
-    assert_eq!(rt; told(found), (MEETS, 183_731_428, 183_731_432, 14));
+    let mut lines = [Line::default(); 21];
+    let found = closed(DAY, &SECOND_ZONE).assess(&slower, &mut lines);
+    assert_eq!(rt;
+        told(found),
+        finding(Verdict::Meets, 183_731_428, 183_731_432, 14)
+    );
 }
 
 #[test]
@@ -64,11 +68,14 @@ fn narrowed_lobby_governs(rt: HostRuntime) {
         length: 7_500,
         persons: 0,
     };
-    let mut study = second_study();
+    let mut study = closed(DAY, &SECOND_ZONE);
     assert!(rt; study.reopen().is_ok());
     assert!(rt; study.alter(21, path).is_ok());
     assert!(rt; study.close().is_ok());
-    assert_eq!(rt; assessed(&study), (MEETS, 188_867_914, 188_867_918, 20));
+    assert_eq!(rt;
+        assessed(&study),
+        finding(Verdict::Meets, 188_867_914, 188_867_918, 20)
+    );
 }
 
 // A source corridor of 900 by 13,000 mm to the station.
@@ -85,22 +92,22 @@ fn corridor(persons: u32) -> Draft {
 
 #[test]
 fn launching_above_half_an_hour_exceeds(rt: HostRuntime) {
-    let half_an_hour = network::CaseData {
+    let half_an_hour = CaseData {
         embarkation: 1_800,
         ..NIGHT
     };
-    let longer = network::CaseData {
+    let longer = CaseData {
         embarkation: 1_801,
         ..NIGHT
     };
     let drafts = [corridor(11)];
     assert_eq!(rt;
         assessed(&closed(half_an_hour, &drafts)),
-        (MEETS, 26_885_893, 26_885_895, 1)
+        finding(Verdict::Meets, 26_885_893, 26_885_895, 1)
     );
     assert_eq!(rt;
         assessed(&closed(longer, &drafts)),
-        (EXCEEDS, 26_885_893, 26_885_895, 1)
+        finding(Verdict::Exceeds, 26_885_893, 26_885_895, 1)
     );
 }
 
@@ -108,12 +115,12 @@ fn launching_above_half_an_hour_exceeds(rt: HostRuntime) {
 fn too_few_lines_are_refused_and_left_alone(rt: HostRuntime) {
     let marked = Line {
         persons: 7,
-        ..NO_LINE
+        ..Line::default()
     };
     let mut lines = [marked; 20];
     assert_eq!(rt;
-        told(second_study().assess(&Circular, &mut lines)),
-        (0, 13, 0, 0)
+        told(closed(DAY, &SECOND_ZONE).assess(&Circular, &mut lines)),
+        Err((13, 0))
     );
     assert_eq!(rt; lines[0].persons, 7);
     assert_eq!(rt; lines[19].persons, 7);
@@ -123,10 +130,14 @@ fn too_few_lines_are_refused_and_left_alone(rt: HostRuntime) {
 fn lines_past_the_elements_are_left_alone(rt: HostRuntime) {
     let marked = Line {
         persons: 7,
-        ..NO_LINE
+        ..Line::default()
     };
     let mut lines = [marked; 22];
-    assert!(rt; second_study().assess(&Circular, &mut lines).is_ok());
+    assert!(rt;
+        closed(DAY, &SECOND_ZONE)
+            .assess(&Circular, &mut lines)
+            .is_ok()
+    );
     assert_eq!(rt; lines[20].persons, 332);
     assert_eq!(rt; lines[21].persons, 7);
 }
@@ -154,10 +165,10 @@ fn thin_flow_is_refused_and_clears_the_lines(rt: HostRuntime) {
     let study = closed(DAY, &[wide, door, door]);
     let marked = Line {
         persons: 7,
-        ..NO_LINE
+        ..Line::default()
     };
     let mut lines = [marked; 4];
-    assert_eq!(rt; told(study.assess(&Circular, &mut lines)), (0, 14, 2, 0));
+    assert_eq!(rt; told(study.assess(&Circular, &mut lines)), Err((14, 2)));
     assert_eq!(rt; lines[0].persons, 0);
     assert_eq!(rt; lines[2].persons, 0);
     assert_eq!(rt; lines[3].persons, 7);
@@ -165,5 +176,12 @@ fn thin_flow_is_refused_and_clears_the_lines(rt: HostRuntime) {
 
 #[test]
 fn open_studies_are_not_assessed(rt: HostRuntime) {
-    assert_eq!(rt; assessed(&Study::new()), (0, 1, 0, 0));
+    assert_eq!(rt; assessed(&Study::new()), Err((1, 0)));
+}
+
+#[test]
+fn verdicts_are_filed_by_number(rt: HostRuntime) {
+    assert_eq!(rt; u8::from(Verdict::Meets), 1);
+    assert_eq!(rt; u8::from(Verdict::Exceeds), 2);
+    assert_eq!(rt; u8::from(Verdict::Undecided), 3);
 }

@@ -4,7 +4,7 @@
 pub type Row = (usize, u32, bool, u64, u64, u64, u64);
 
 // 42 of the 45 elements of the first zone; the rules say why three are left out.
-pub const FIRST_ZONE: [Row; 42] = [
+pub const FIRST_ROWS: [Row; 42] = [
     // Deck 5, corridor 1
     (0, 11, false, 770, 1_030, 14_300, 12_600),
     // Deck 5, corridor 2
@@ -92,7 +92,7 @@ pub const FIRST_ZONE: [Row; 42] = [
 ];
 
 // All elements of the second zone.
-pub const SECOND_ZONE: [Row; 21] = [
+pub const SECOND_ROWS: [Row; 21] = [
     // Deck 6, door A
     (0, 100, false, 1_300, 0, 76_900, 0),
     // Deck 6, door B

@@ -3,7 +3,7 @@ use super::print;
 use network::{CaseData, Draft};
 use std::io;
 use study::Study;
-use zones::second_zone;
+use zones::SECOND_ZONE;
 
 const DAY: CaseData = CaseData {
     case_number: 2,
@@ -35,11 +35,9 @@ pub fn run(rt: &HostRuntime, study: &mut Study) -> io::Result<()> {
 // Enters all elements, as many as there are.
 fn enter_zone(rt: &HostRuntime, study: &mut Study) -> io::Result<()> {
     let mut accepted = 0u32;
-    for i in 0..21 {
-        if let Some(draft) = second_zone(i) {
-            if study.enter(draft).is_ok() {
-                accepted = accepted.saturating_add(1);
-            }
+    for draft in &SECOND_ZONE {
+        if study.enter(*draft).is_ok() {
+            accepted = accepted.saturating_add(1);
         }
     }
     println!(rt; "  enter {accepted} elements: accepted")
@@ -47,9 +45,7 @@ fn enter_zone(rt: &HostRuntime, study: &mut Study) -> io::Result<()> {
 
 // Takes out the last path and enters it again, narrows it and widens it, and closes.
 fn settle_zone(rt: &HostRuntime, study: &mut Study) -> io::Result<()> {
-    let Some(path) = second_zone(20) else {
-        return Ok(());
-    };
+    let path = SECOND_ZONE[20];
     let narrowed = Draft {
         width: 2_000,
         ..path

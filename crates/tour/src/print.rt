@@ -1,11 +1,9 @@
 // What the steps of the tour print.
-use exact::Ends;
 use network::Refusal;
 use reading::SourceFigures;
 use sheet::Line;
 use std::io;
-use study::Outcome;
-use verdicts::{Finding, Verdict};
+use verdicts::Finding;
 use walking::{RuleBook, WalkingTables};
 
 // The rows of all four curves, and the door flow.
@@ -36,83 +34,47 @@ pub fn rules<B: RuleBook>(rt: &HostRuntime, book: &B) -> io::Result<()> {
 }
 
 pub fn figures(rt: &HostRuntime, figures: SourceFigures) -> io::Result<()> {
-    ends(rt, "density", figures.density)?;
-    ends(rt, "specific flow", figures.specific_flow)?;
-    ends(rt, "flow", figures.flow)?;
-    ends(rt, "speed", figures.speed)
+    let SourceFigures {
+        density,
+        specific_flow,
+        flow,
+        speed,
+    } = figures;
+    println!(rt; "  density: {density} billionths")?;
+    println!(rt; "  specific flow: {specific_flow} billionths")?;
+    println!(rt; "  flow: {flow} billionths")?;
+    println!(rt; "  speed: {speed} billionths")
 }
 
-fn ends(rt: &HostRuntime, name: &str, ends: Ends) -> io::Result<()> {
-    let lower = ends.lower;
-    let upper = ends.upper;
-    println!(rt; "  {name}: {lower} to {upper} billionths")
-}
-
-// What a call answered: accepted, or a refusal with its number and place.
-pub fn answer(rt: &HostRuntime, call: &str, answer: Result<(), Refusal>) -> io::Result<()> {
-    match answer {
-        Ok(()) => println!(rt; "  {call}: accepted"),
-        Err(refusal) => refused(rt, call, refusal),
-    }
-}
-
-fn refused(rt: &HostRuntime, call: &str, refusal: Refusal) -> io::Result<()> {
-    let number = refusal.number();
-    let place = refusal.place();
-    println!(rt; "  {call}: refused {number} at {place}")
-}
-
-// What any call answered.
-pub fn outcome(rt: &HostRuntime, call: &str, outcome: Result<Outcome, Refusal>) -> io::Result<()> {
+// What a call answered: a finding, acceptance without one, or a refusal.
+pub fn outcome(
+    rt: &HostRuntime,
+    call: &str,
+    outcome: Result<Option<Finding>, Refusal>,
+) -> io::Result<()> {
     match outcome {
-        Ok(Outcome::Done) => println!(rt; "  {call}: accepted"),
-        Ok(Outcome::Found(finding)) => found(rt, Ok(finding)),
-        Err(refusal) => refused(rt, call, refusal),
+        Ok(Some(finding)) => println!(rt; "  {finding}"),
+        Ok(None) => println!(rt; "  {call}: accepted"),
+        Err(refusal) => println!(rt; "  {call}: {refusal}"),
     }
 }
 
-// A finding: both ends of the slowest escape route's time, what governs it, and the verdict.
-pub fn found(rt: &HostRuntime, found: Result<Finding, Refusal>) -> io::Result<()> {
-    match found {
-        Ok(finding) => {
-            let lower = finding.lower;
-            let upper = finding.upper;
-            let governing = finding.governing;
-            let verdict = verdict_name(finding.verdict);
-            println!(rt;
-                "  {lower} to {upper} microseconds, governed by element {governing}: {verdict}"
-            )
-        }
-        Err(refusal) => refused(rt, "assess", refusal),
-    }
-}
-
-fn verdict_name(verdict: Verdict) -> &'static str {
-    match verdict {
-        Verdict::Meets => "meets the limit",
-        Verdict::Exceeds => "exceeds the limit",
-        Verdict::Undecided => "undecided",
-    }
+// The same of a call that has no finding.
+pub fn answer(rt: &HostRuntime, call: &str, answer: Result<(), Refusal>) -> io::Result<()> {
+    outcome(rt, call, answer.map(|()| None))
 }
 
 // A line for each element: persons, queue, flow and speed in billionths, durations in microseconds.
 pub fn worksheet(rt: &HostRuntime, lines: &[Line]) -> io::Result<()> {
-    let mut number = 1u32;
-    for line in lines {
+    for (index, line) in lines.iter().enumerate() {
+        let number = index + 1;
         let persons = line.persons;
         let queue = if line.queue { "queue" } else { "no queue" };
         println!(rt; "  element {number}: {persons} persons, {queue}")?;
-        line_ends(rt, "flow", line.flow)?;
-        line_ends(rt, "speed", line.speed)?;
-        line_ends(rt, "flow duration", line.flow_duration)?;
-        line_ends(rt, "travel", line.travel)?;
-        number = number.saturating_add(1);
+        println!(rt; "    flow {}", line.flow)?;
+        println!(rt; "    speed {}", line.speed)?;
+        println!(rt; "    flow duration {}", line.flow_duration)?;
+        println!(rt; "    travel {}", line.travel)?;
     }
     Ok(())
-}
-
-fn line_ends(rt: &HostRuntime, name: &str, ends: Ends) -> io::Result<()> {
-    let lower = ends.lower;
-    let upper = ends.upper;
-    println!(rt; "    {name} {lower} to {upper}")
 }
