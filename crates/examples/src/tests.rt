@@ -85,10 +85,10 @@ fn curves_are_read_at_and_past_their_rows(rt: HostRuntime) {
 }
 
 fn figures(persons: u32, width: u32, length: u32) -> Result<SourceFigures, Fail> {
-    match SourceCorridor::new(persons, width, length) {
-        Some(corridor) => Ok(corridor.figures(&Circular)),
-        None => Err(Fail::new("a number is out of range")),
-    }
+    let corridor = SourceCorridor::new(persons, width, length).ok_or(Fail::new(
+        "a number is out of range",
+    ))?;
+    Ok(corridor.figures(&Circular))
 }
 
 #[test]
