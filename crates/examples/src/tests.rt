@@ -85,9 +85,9 @@ fn curves_are_read_at_and_past_their_rows(rt: HostRuntime) {
 }
 
 fn figures(persons: u32, width: u32, length: u32) -> Result<SourceFigures, Fail> {
-    let corridor = SourceCorridor::new(persons, width, length).ok_or(Fail::new(
-        "a number is out of range",
-    ))?;
+    let Some(corridor) = SourceCorridor::new(persons, width, length) else {
+        return Err(Fail::new("a number is out of range"));
+    };
     Ok(corridor.figures(&Circular))
 }
 
