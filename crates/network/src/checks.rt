@@ -31,9 +31,7 @@ pub fn check_element(draft: Draft, number: u32) -> Result<Element, Refusal>
     ensures answered { told result ≡ first_true (element_sentences draft number) (element_of draft) }
     ensures lawful { MatchResult result LawfulElement (λ _. LawfulDraft draft → ⊥) }
 {
-    let Some(kind) = Kind::from_number(draft.kind) else {
-        return Err(Refusal::UnknownKind(number));
-    };
+    let kind = Kind::try_from(draft.kind).map_err(|_| Refusal::UnknownKind(number))?;
     let element = Element {
         kind,
         from: draft.from,

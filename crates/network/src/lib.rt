@@ -10,18 +10,23 @@ mod table;
 pub use checks::{check_case, check_element};
 
 // What a passage of the escape routes is.
-#[derive(Clone, Copy, PartialEq, Eq)]
+#[derive(Clone, Copy, Debug, Default, PartialEq, Eq)]
 pub enum Kind {
+    #[default]
     Corridor,
     Door,
     StairDown,
     StairUp,
 }
 
+// A number that names no kind.
+#[derive(Clone, Copy, Debug, PartialEq, Eq)]
+pub struct UnknownKind(pub u8);
+
 // An element as a caller or a file gives it, not checked yet: its kind by number, its clear width and its length in
 // millimetres, the persons who start in it, and the transition points 1 to 64 that it leads from and to.
 // From 0 marks a source, and to 0 is the assembly station.
-#[derive(Clone, Copy)]
+#[derive(Clone, Copy, Debug, PartialEq, Eq)]
 pub struct Draft {
     pub kind: u8,
     pub from: u8,
@@ -32,7 +37,7 @@ pub struct Draft {
 }
 
 // An element of a network: a draft whose kind is known.
-#[derive(Clone, Copy, PartialEq, Eq)]
+#[derive(Clone, Copy, Debug, Default, PartialEq, Eq)]
 pub struct Element {
     pub kind: Kind,
     pub from: u8,
@@ -44,7 +49,7 @@ pub struct Element {
 
 // What a study is made for: the case 1 to 4, the ship's kind (1 ro-ro, 2 other), its main vertical zones, and the
 // seconds that embarkation and launching take (0 where they are not given).
-#[derive(Clone, Copy, PartialEq, Eq)]
+#[derive(Clone, Copy, Debug, PartialEq, Eq)]
 pub struct CaseData {
     pub case_number: u8,
     pub ship_kind: u8,
@@ -54,7 +59,7 @@ pub struct CaseData {
 
 // Why a call is refused, in the order of checking. A payload is the place: an element's number, the item of the case
 // data, a point, or a record of a file.
-#[derive(Clone, Copy)]
+#[derive(Clone, Copy, Debug, PartialEq, Eq)]
 pub enum Refusal {
     // the call needs the other stage
     WrongStage,
