@@ -1,10 +1,9 @@
 ghost use Rattle.std.specs.Prelude.{◌≡◌, codes, decimal, ◌++◌, Some};
 ghost use Rattle.network.specs.Kinds.{kind_number, IsKindNumbered};
 
+use super::*;
 use std::error::Error;
 use std::fmt;
-
-use super::*;
 
 impl From<Kind> for u8 {
     ghost from_gives = { λ kind number. number ≡ kind_number kind };

@@ -1,15 +1,14 @@
 #![tactic(auto)]
 
-ghost use Rattle.std.specs.Prelude.{◌≡◌, ◌≤◌, length};
-
 mod checks;
 mod kinds;
 mod refusals;
 mod table;
 
+use arrayvec::ArrayVec;
 pub use checks::{check_case, check_element};
 
-// What a passage of the escape routes is.
+// What a passage of the escape routes is. The default stands in the unused places of a table only.
 #[derive(Clone, Copy, Debug, Default, PartialEq, Eq)]
 pub enum Kind {
     #[default]
@@ -28,7 +27,9 @@ pub struct UnknownKind(pub u8);
 // From 0 marks a source, and to 0 is the assembly station.
 #[derive(Clone, Copy, Debug, PartialEq, Eq)]
 pub struct Draft {
+    // a byte and no Kind: nothing is checked yet, and every byte that a caller or a file gives needs a place
     pub kind: u8,
+    // 0 beside the points and no Option, for the same reason: files give one byte
     pub from: u8,
     pub to: u8,
     pub width: u32,
@@ -40,6 +41,7 @@ pub struct Draft {
 #[derive(Clone, Copy, Debug, Default, PartialEq, Eq)]
 pub struct Element {
     pub kind: Kind,
+    // the draft's bytes, with their 0: the order of points and the records of files read them as numbers
     pub from: u8,
     pub to: u8,
     pub width: u32,
@@ -51,9 +53,11 @@ pub struct Element {
 // seconds that embarkation and launching take (0 where they are not given).
 #[derive(Clone, Copy, Debug, PartialEq, Eq)]
 pub struct CaseData {
+    // numbers and no enums: a caller or a file gives them before any check, and rule books are asked by number
     pub case_number: u8,
     pub ship_kind: u8,
     pub zones: u8,
+    // 0 and no Option: the rules count what is not given as no time at all
     pub embarkation: u32,
 }
 
@@ -104,8 +108,5 @@ pub enum Refusal {
 // The elements of a study in order of entry, at most 128 of them.
 #[derive(Drop)]
 pub struct ElementTable {
-    items: [Element; 128],
-    count: usize,
-    ghost whole: { length items ≡ 128 },
-    ghost fits: { count ≤ 128 },
+    elements: ArrayVec<Element, 128>,
 }
