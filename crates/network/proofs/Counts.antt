@@ -1,18 +1,26 @@
--- A test over the elements, one element after another.
-use Rattle.std.proofs.Common.{◌≡◌, ℕ, zero, suc, ◌+◌, ◌<◌, ◌≤◌, Bool, true, false, sym, ap, ◌∙◌, inl, inr, add-one, arith}
-use Rattle.std.proofs.lemmas.Bool.{cases_eq, or_left, or_right, or_from}
-use Rattle.network.specs.Elements.{any_below}
+-- Sums and tests by index, as the same over the elements themselves.
+use Rattle.std.proofs.Common.{◌≡◌, ℕ, zero, suc, ◌+◌, Bool, ◌||◌, List, ◌∷◌, length, refl, ap, ◌∙◌, arith}
+use Rattle.std.specs.List.{sum_by, list_any}
+use Rattle.std.proofs.lemmas.List.Recursion.{is_sum_by, same_from_clauses}
+use Rattle.exact.specs.Sums.{sum_below}
+use Rattle.exact.proofs.SumLaws.{sum_none}
+use Rattle.network.specs.declared.Element.{Element}
+use Rattle.network.specs.Elements.{el, any_below}
 
-pub any_here : (n : ℕ) (t : ℕ → Bool) (i : ℕ) → i < n → t i ≡ true → any_below n t ≡ true
-any_here zero t i lt e = absurd (omega arith)
-any_here (suc n) t i lt e =
-    elim (cases_eq i n) [
-      | inl same ↦ or_right (any_below n t) (t n) (sym (ap t same) ∙ e)
-      | inr other ↦ or_left (any_below n t) (t n) (any_here n t i (omega arith) e)
-    ]
+sum_first : (n : ℕ) (f : ℕ → ℕ) → sum_below (suc n) f ≡ f 0 + sum_below n (λ i. f (suc i))
+unfolding sum_below
+sum_first zero f = omega arith
+sum_first (suc n) f = omega (arith, sum_first n f)
 
-pub none_more : (n : ℕ) (t : ℕ → Bool) → any_below n t ≡ false → t n ≡ false → any_below (n + 1) t ≡ false
-none_more n t h e = rw add-one (or_from (any_below n t) (t n) h e)
+any_first : (n : ℕ) (t : ℕ → Bool) → any_below (suc n) t ≡ (t 0 || any_below n (λ i. t (suc i)))
+any_first zero t = grind arith
+any_first (suc n) t = ap (λ b. b || t (suc n)) (any_first n t) ∙ grind arith
 
-pub none_all : (n m : ℕ) (t : ℕ → Bool) → n ≤ m → m ≤ n → any_below n t ≡ false → any_below m t ≡ false
-none_all n m t a b h = let e : m ≡ n = omega arith in ap (λ k. any_below k t) e ∙ h
+pub sum_of_each : (f : Element → ℕ) (es : List Element) → sum_below (length es) (λ i. f (el es i)) ≡ sum_by f es
+sum_of_each f es =
+    is_sum_by (λ xs. sum_below (length xs) (λ i. f (el xs i))) f (sum_none _) (λ x xs. sum_first (length xs) (λ i. f (el (x ∷ xs) i))) es
+
+pub any_of_each : (p : Element → Bool) (es : List Element) → any_below (length es) (λ i. p (el es i)) ≡ list_any p es
+any_of_each p es =
+    same_from_clauses (λ xs. any_below (length xs) (λ i. p (el xs i))) (list_any p) (λ x b. p x || b) refl
+    (λ x xs. any_first (length xs) (λ i. p (el (x ∷ xs) i))) (λ _ _. refl) es

@@ -1,5 +1,5 @@
 -- The first true sentence: one at a time, and all at once.
-use Rattle.std.proofs.Common.{◌≡◌, ℕ, true, false, List, [], ◌∷◌, ◌++◌, Ok, Err, Result, sym, refl, ◌∙◌, inl, inr, arith, MatchResult}
+use Rattle.std.proofs.Common.{◌≡◌, ℕ, true, false, List, [], ◌∷◌, ◌++◌, Ok, Err, Result, sym, refl, ◌∙◌, inl, inr, MatchResult}
 use Rattle.std.proofs.lemmas.Bool.{cond-true, cond-false, cond_both, cases_Bool}
 use Rattle.network.specs.declared.Refusal.{Refusal}
 use Rattle.network.specs.Refusals.{Answer, accepted, refused, told}
@@ -44,18 +44,18 @@ all_passed (s ∷ rest) given f = all_passed rest given f.1 ∙ pass s rest give
 pub given_is : {A : Type 0} (ss : List Sentence) (given x : A) → accepted x ≡ first_true ss given → (x ≡ given) × NoneTrue ss
 given_is ss given x e =
     first_keeps ss given (λ a. accepted x ≡ a → (x ≡ given) × NoneTrue ss)
-    (λ n p q. let z : ◌≡◌ {A = ℕ} 0 1 = cc in absurd (omega arith)) (λ f q. (cc, f)) e
+    (λ n p q. absurd (cc)) (λ f q. (cc, f)) e
 
 -- what a result says of the sentences: where it is Ok none is true, else some is
 pub by_result : {A : Type 0} (r : Result A Refusal) (ss : List Sentence) (given : A) → told r ≡ first_true ss given
     → MatchResult r (λ x. (x ≡ given) × NoneTrue ss) (λ _. NoneTrue ss → ⊥)
 by_result (Ok x) ss given e = given_is ss given x e
-by_result (Err y) ss given e = λ f. let q = all_passed ss given f in let z : ◌≡◌ {A = ℕ} 0 1 = cc in omega arith
+by_result (Err y) ss given e = λ f. let q = all_passed ss given f in cc
 
 -- ---- one list of sentences after another
 
 pub stops_early : {A B : Type 0} (ss ts : List Sentence) (a : A) (b : B) (n p : ℕ) → refused n p ≡ first_true ss a → refused n p ≡ first_true (ss ++ ts) b
-stops_early [] ts a b n p e = let z : ◌≡◌ {A = ℕ} 0 1 = cc in absurd (omega arith)
+stops_early [] ts a b n p e = absurd (cc)
 stops_early (s ∷ rest) ts a b n p e =
     elim (cases_Bool s.holds) [
       | inl yes-holds ↦ let q = e ∙ sym (stop s rest a yes-holds) in cc q ∙ stop s (rest ++ ts) b yes-holds

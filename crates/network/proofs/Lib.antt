@@ -1,7 +1,6 @@
 pub mod First
 pub mod Drafts
 pub mod Rules
-pub mod Shifts
 pub mod Counts
 pub mod Points
 pub mod Readiness

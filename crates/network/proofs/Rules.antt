@@ -33,10 +33,10 @@ points_pass from to f t r = grind (arith, nat_tests)
 -- ---- by kind
 
 no_length : (k : Kind) (n : ℕ) → wrong_length k n ≡ false → k ≡ Door → n ≡ 0
-no_length Corridor n e q = let z : ◌≡◌ {A = ℕ} 0 1 = cc in absurd (omega arith)
+no_length Corridor n e q = absurd (cc)
 no_length Door n e q = grind (arith, nat_tests)
-no_length StairDown n e q = let z : ◌≡◌ {A = ℕ} 0 1 = cc in absurd (omega arith)
-no_length StairUp n e q = let z : ◌≡◌ {A = ℕ} 0 1 = cc in absurd (omega arith)
+no_length StairDown n e q = absurd (cc)
+no_length StairUp n e q = absurd (cc)
 
 some_length : (k : Kind) (n : ℕ) → wrong_length k n ≡ false → (k ≡ Door → ⊥) → Within 100 n 100000
 some_length Corridor n e q = inside 100 100000 n e
@@ -45,16 +45,16 @@ some_length StairDown n e q = inside 100 100000 n e
 some_length StairUp n e q = inside 100 100000 n e
 
 length_passes : (k : Kind) (n : ℕ) → (k ≡ Door → n ≡ 0) → ((k ≡ Door → ⊥) → Within 100 n 100000) → wrong_length k n ≡ false
-length_passes Corridor n d l = not_outside 100 100000 n (l (λ q. let z : ◌≡◌ {A = ℕ} 0 1 = cc in omega arith))
+length_passes Corridor n d l = not_outside 100 100000 n (l (λ q. cc))
 length_passes Door n d l = let z = d refl in grind (arith, nat_tests)
-length_passes StairDown n d l = not_outside 100 100000 n (l (λ q. let z : ◌≡◌ {A = ℕ} 0 1 = cc in omega arith))
-length_passes StairUp n d l = not_outside 100 100000 n (l (λ q. let z : ◌≡◌ {A = ℕ} 0 1 = cc in omega arith))
+length_passes StairDown n d l = not_outside 100 100000 n (l (λ q. cc))
+length_passes StairUp n d l = not_outside 100 100000 n (l (λ q. cc))
 
 level : (k : Kind) → is_stair k ≡ false → (k ≡ Corridor) ⊎ (k ≡ Door)
 level Corridor e = inl refl
 level Door e = inr refl
-level StairDown e = let z : ◌≡◌ {A = ℕ} 0 1 = cc in absurd (omega arith)
-level StairUp e = let z : ◌≡◌ {A = ℕ} 0 1 = cc in absurd (omega arith)
+level StairDown e = absurd (cc)
+level StairUp e = absurd (cc)
 
 no_stair : (k : Kind) → (k ≡ Corridor) ⊎ (k ≡ Door) → is_stair k ≡ false
 no_stair k (inl e) = ap is_stair e

@@ -1,5 +1,5 @@
 -- Refusals by number and place, and what a call answers.
-use Rattle.std.specs.Prelude.{ℕ, Ok, Err, Result}
+use Rattle.std.specs.Prelude.{ℕ, List, ◌++◌, Ok, Err, Result, codes, decimal}
 use Rattle.network.specs.declared.Refusal.{Refusal}
 use Rattle.network.specs.declared.Refusal.TheVariants.{WrongStage, NoSuchElement, TableFull, UnknownKind, WidthOutOfRange, LengthOutOfRange, WrongPoints, WrongPersons, CaseDataOutOfRange, CaseNotSet, AboardOutOfRange, LoosePoint, WorksheetTooShort, FlowTooThin, UnevenFile, BadRecord, ReadStudyRefused, FileFull, WrongFiling}
 
@@ -44,6 +44,10 @@ place_of (BadRecord p) = p
 place_of (ReadStudyRefused p) = p
 place_of FileFull = 0
 place_of WrongFiling = 0
+
+-- what a refusal prints
+abbrev pub refusal_text : Refusal → List ℕ
+refusal_text r = codes "refused " ++ (decimal (number_of r) ++ (codes " at " ++ decimal (place_of r)))
 
 -- what a call answers: what it gives, or the number and the place of a refusal
 pub data Answer (A : Type 0) : Type 0 where

@@ -1,7 +1,7 @@
 -- What an element table holds.
-use Rattle.std.specs.Prelude.{List, take}
+use Rattle.std.specs.Prelude.{List}
 use Rattle.network.specs.declared.Element.{Element}
 use Rattle.network.specs.declared.ElementTable.{ElementTable}
 
 abbrev pub listed : ElementTable → List Element
-listed t = take t.count t.items
+listed t = t.elements.items

@@ -11,13 +11,13 @@ pub fn check_case(data: CaseData) -> Result<(), Refusal>
     ensures answered { told result ≡ first_true (case_sentences «data») tt }
     ensures lawful { MatchResult result (λ _. LawfulCase «data») (λ _. LawfulCase «data» → ⊥) }
 {
-    if data.case_number < 1 || data.case_number > 4 {
+    if !(1..=4).contains(&data.case_number) {
         return Err(Refusal::CaseDataOutOfRange(1));
     }
-    if data.ship_kind < 1 || data.ship_kind > 2 {
+    if !(1..=2).contains(&data.ship_kind) {
         return Err(Refusal::CaseDataOutOfRange(2));
     }
-    if data.zones < 1 || data.zones > 20 {
+    if !(1..=20).contains(&data.zones) {
         return Err(Refusal::CaseDataOutOfRange(3));
     }
     if data.embarkation > 7200 {
@@ -31,9 +31,7 @@ pub fn check_element(draft: Draft, number: u32) -> Result<Element, Refusal>
     ensures answered { told result ≡ first_true (element_sentences draft number) (element_of draft) }
     ensures lawful { MatchResult result LawfulElement (λ _. LawfulDraft draft → ⊥) }
 {
-    let Some(kind) = Kind::from_number(draft.kind) else {
-        return Err(Refusal::UnknownKind(number));
-    };
+    let kind = Kind::try_from(draft.kind).map_err(|_| Refusal::UnknownKind(number))?;
     let element = Element {
         kind,
         from: draft.from,
@@ -50,7 +48,7 @@ impl Element {
     fn checked(self, number: u32) -> Result<Element, Refusal>
         ensures answered { told result ≡ first_true (measure_sentences self number) self }
     {
-        if self.width < 500 || self.width > 10_000 {
+        if !(500..=10_000).contains(&self.width) {
             return Err(Refusal::WidthOutOfRange(number));
         }
         if self.has_wrong_length() {
@@ -70,7 +68,7 @@ impl Element {
     {
         match self.kind {
             Kind::Door => self.length != 0,
-            _ => self.length < 100 || self.length > 100_000,
+            _ => !(100..=100_000).contains(&self.length),
         }
     }
 

@@ -1,29 +1,35 @@
 #![tactic(auto)]
 
-ghost use Rattle.std.specs.Prelude.{◌≡◌, ◌≤◌, length};
-
 mod checks;
 mod kinds;
 mod refusals;
 mod table;
 
+use arrayvec::ArrayVec;
 pub use checks::{check_case, check_element};
 
-// What a passage of the escape routes is.
-#[derive(Clone, Copy, PartialEq, Eq)]
+// What a passage of the escape routes is. The default stands in the unused places of a table only.
+#[derive(Clone, Copy, Debug, Default, PartialEq, Eq)]
 pub enum Kind {
+    #[default]
     Corridor,
     Door,
     StairDown,
     StairUp,
 }
 
+// A number that names no kind.
+#[derive(Clone, Copy, Debug, PartialEq, Eq)]
+pub struct UnknownKind(pub u8);
+
 // An element as a caller or a file gives it, not checked yet: its kind by number, its clear width and its length in
 // millimetres, the persons who start in it, and the transition points 1 to 64 that it leads from and to.
 // From 0 marks a source, and to 0 is the assembly station.
-#[derive(Clone, Copy)]
+#[derive(Clone, Copy, Debug, PartialEq, Eq)]
 pub struct Draft {
+    // a byte and no Kind: nothing is checked yet, and every byte that a caller or a file gives needs a place
     pub kind: u8,
+    // 0 beside the points and no Option, for the same reason: files give one byte
     pub from: u8,
     pub to: u8,
     pub width: u32,
@@ -32,9 +38,10 @@ pub struct Draft {
 }
 
 // An element of a network: a draft whose kind is known.
-#[derive(Clone, Copy, PartialEq, Eq)]
+#[derive(Clone, Copy, Debug, Default, PartialEq, Eq)]
 pub struct Element {
     pub kind: Kind,
+    // the draft's bytes, with their 0: the order of points and the records of files read them as numbers
     pub from: u8,
     pub to: u8,
     pub width: u32,
@@ -44,17 +51,19 @@ pub struct Element {
 
 // What a study is made for: the case 1 to 4, the ship's kind (1 ro-ro, 2 other), its main vertical zones, and the
 // seconds that embarkation and launching take (0 where they are not given).
-#[derive(Clone, Copy, PartialEq, Eq)]
+#[derive(Clone, Copy, Debug, PartialEq, Eq)]
 pub struct CaseData {
+    // numbers and no enums: a caller or a file gives them before any check, and rule books are asked by number
     pub case_number: u8,
     pub ship_kind: u8,
     pub zones: u8,
+    // 0 and no Option: the rules count what is not given as no time at all
     pub embarkation: u32,
 }
 
 // Why a call is refused, in the order of checking. A payload is the place: an element's number, the item of the case
 // data, a point, or a record of a file.
-#[derive(Clone, Copy)]
+#[derive(Clone, Copy, Debug, PartialEq, Eq)]
 pub enum Refusal {
     // the call needs the other stage
     WrongStage,
@@ -99,8 +108,5 @@ pub enum Refusal {
 // The elements of a study in order of entry, at most 128 of them.
 #[derive(Drop)]
 pub struct ElementTable {
-    items: [Element; 128],
-    count: usize,
-    ghost whole: { length items ≡ 128 },
-    ghost fits: { count ≤ 128 },
+    elements: ArrayVec<Element, 128>,
 }

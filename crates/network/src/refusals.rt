@@ -1,10 +1,13 @@
-ghost use Rattle.std.specs.Prelude.{◌≡◌};
-ghost use Rattle.network.specs.Refusals.{number_of, place_of};
+ghost use Rattle.std.specs.Prelude.{◌≡◌, Some};
+ghost use Rattle.network.specs.Refusals.{number_of, place_of, refusal_text};
 
 use super::*;
+use std::error::Error;
+use std::fmt;
 
 impl Refusal {
     // The number that the refusal is listed under, from 1.
+    // A match and no cast: variants that hold a place have no number of their own.
     pub fn number(&self) -> u8
         ensures { result ≡ number_of self.now }
     {
@@ -32,6 +35,7 @@ impl Refusal {
     }
 
     // The element, item, point or record that is wrong; 0 where the refusal names none.
+    // A number and no Option: callers and files are told two numbers of every refusal.
     pub fn place(&self) -> u32
         ensures { result ≡ place_of self.now }
     {
@@ -58,3 +62,15 @@ impl Refusal {
         }
     }
 }
+
+impl fmt::Display for Refusal {
+    ghost output = { λ refusal. Some (refusal_text refusal) };
+
+    fn fmt<W: fmt::Write>(&self, f: &mut fmt::Formatter<W>) -> fmt::Result {
+        let number = self.number();
+        let place = self.place();
+        write!(f, "refused {number} at {place}")
+    }
+}
+
+impl Error for Refusal {}

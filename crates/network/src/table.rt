@@ -1,9 +1,9 @@
-ghost use Rattle.std.specs.Prelude.{◌≡◌, ◌<◌, [], ◌∷◌, ◌++◌, length, set as put_at, MatchResult};
+ghost use Rattle.std.specs.Prelude.{◌≡◌, ◌<◌, ◌≤◌, [], ◌∷◌, ◌++◌, length, set as put_at, MatchResult};
 ghost use Rattle.std.specs.List.{remove};
 ghost use Rattle.network.specs.Refusals.{told};
 ghost use Rattle.network.specs.Sentences.{first_true};
 ghost use Rattle.network.specs.Elements.{aboard as persons_aboard, has_arrivals, has_departures};
-ghost use Rattle.network.specs.Points.{point_sentences};
+ghost use Rattle.network.specs.Points.{loose, point_sentences};
 ghost use Rattle.network.specs.Ready.{Tied};
 ghost use Rattle.network.specs.Tables.{listed};
 
@@ -13,31 +13,23 @@ impl ElementTable {
     pub fn new() -> ElementTable
         ensures { listed result ≡ [] }
     {
-        let none = Element {
-            kind: Kind::Corridor,
-            from: 0,
-            to: 0,
-            width: 0,
-            length: 0,
-            persons: 0,
-        };
         ElementTable {
-            items: [none; 128],
-            count: 0,
+            elements: ArrayVec::new(),
         }
     }
 
     pub fn count(&self) -> usize
         ensures { result ≡ length (listed self.now) }
     {
-        self.elements().len()
+        self.elements.len()
     }
 
     // The elements in order of entry.
     pub fn elements(&self) -> &[Element]
-        ensures { result.now ≡ listed self.now }
+        ensures value { result.now ≡ listed self.now }
+        ensures fits { length result.now ≤ 128 }
     {
-        &self.items[0..self.count]
+        self.elements.as_slice()
     }
 
     // One element more, at the end.
@@ -45,15 +37,14 @@ impl ElementTable {
         requires room { length (listed self.old) < 128 }
         ensures { listed self.new ≡ listed self.old ++ element ∷ [] }
     {
-        self.items[self.count] = element;
-        self.count += 1;
+        self.elements.push(element);
     }
 
     pub fn replace(&mut self, index: usize, element: Element)
         requires there { index < length (listed self.old) }
         ensures { listed self.new ≡ put_at (listed self.old) index element }
     {
-        self.items[index] = element;
+        self.elements[index] = element;
     }
 
     // Takes the element out and moves the later ones down.
@@ -61,58 +52,46 @@ impl ElementTable {
         requires there { index < length (listed self.old) }
         ensures { listed self.new ≡ remove (listed self.old) index }
     {
-        let last = self.count - 1;
-        for i in index..last {
-            self.items[i] = self.items[i + 1];
-        }
-        self.count = last;
+        self.elements.remove(index);
     }
 
     // All persons, wherever they start.
     pub fn aboard(&self) -> u64
         ensures { result ≡ persons_aboard (listed self.now) }
     {
-        let mut persons: u64 = 0;
-        for element in self.elements() {
-            persons += element.persons as u64;
-        }
-        persons
+        let persons = |element: &Element| u64::from(element.persons);
+        self.elements().iter().map(persons).sum()
     }
 
     // Whether some element leads to the point.
     pub fn arrives(&self, point: u8) -> bool
         ensures { result ≡ has_arrivals (listed self.now) point }
     {
-        for element in self.elements() {
-            if element.to == point {
-                return true;
-            }
-        }
-        false
+        self.elements().iter().any(|element| element.to == point)
     }
 
     // Whether some element leaves the point.
     pub fn departs(&self, point: u8) -> bool
         ensures { result ≡ has_departures (listed self.now) point }
     {
-        for element in self.elements() {
-            if element.from == point {
-                return true;
-            }
-        }
-        false
+        self.elements().iter().any(|element| element.from == point)
     }
 
-    // Refuses the lowest point that something leads to and nothing leaves, or the reverse.
+    // Whether something leads to the point and nothing leaves it, or the reverse.
+    fn is_loose(&self, point: u8) -> bool
+        ensures { result ≡ loose (listed self.now) point }
+    {
+        self.arrives(point) != self.departs(point)
+    }
+
+    // Refuses the lowest loose point.
     pub fn check_points(&self) -> Result<(), Refusal>
         ensures answered { told result ≡ first_true (point_sentences (listed self.now)) tt }
         ensures tied { MatchResult result (λ _. Tied (listed self.now)) (λ _. Tied (listed self.now) → ⊥) }
     {
-        for point in 1..=64u8 {
-            if self.arrives(point) != self.departs(point) {
-                return Err(Refusal::LoosePoint(point as u32));
-            }
+        match (1..=64u8).find(|point| self.is_loose(*point)) {
+            Some(point) => Err(Refusal::LoosePoint(u32::from(point))),
+            None => Ok(()),
         }
-        Ok(())
     }
 }

@@ -1,29 +1,26 @@
-use Rattle.std.proofs.Common.{Ok, Err, ◌∙◌, arith}
-use Rattle.network.specs.declared.Refusal.TheVariants.{LoosePoint}
+use Rattle.std.proofs.Common.{◌≡◌, ℕ, ◌-◌, ◌∙◌, ◌<◌, ◌≤◌, false, rules, ap}
+use Rattle.std.proofs.iter.runs.Sources.{ranges}
+use Rattle.network.specs.Refusals.{refused}
+use Rattle.network.specs.Points.{loose}
 use Rattle.network.specs.Tables.{listed}
-use Rattle.network.proofs.Points.{from_first, point_passes, point_stops, points_over, loose_by, exactly_tied}
+use Rattle.network.proofs.Points.{held_at, first_loose, none_loose, tied_by}
 use Rattle.network.proofs.ElementTable.check_points.Goals as goal
+use Rattle.network.proofs.ElementTable.check_points.Goals.{After-from, In-None}
 
-pub loop-point-init : goal.loop-point-init
-loop-point-init c = from_first (listed c.args.self.now)
+before : (c : After-from) (p : ℕ) → 1 ≤ p → p < c.in-Some.point → loose (listed c.args.self.now) p ≡ false
+before c p lo hi =
+    held_at (λ q. loose (listed c.args.self.now) q ≡ false) (c.find.ensures.runs.0.at (p - 1)) p (search (rules, ranges)) (search (rules, ranges))
 
-pub loop-point-preserved : goal.loop-point-preserved
-loop-point-preserved c =
-    let es = listed c.args.self.now in
-    let p = c.loop-point.point in
-    let fast = loose_by es p c.arrives.result c.departs.result _ c.arrives.ensures c.departs.ensures c.if-arrives-departs.false in
-    point_passes es p (omega arith) fast ∙ c.loop-point.invariant
+none : (c : In-None) (p : ℕ) → 1 ≤ p → p ≤ 64 → loose (listed c.args.self.now) p ≡ false
+none c p lo hi =
+    held_at (λ q. loose (listed c.args.self.now) q ≡ false) (c.find.ensures.runs.0.at (p - 1)) p (search (rules, ranges)) (search (rules, ranges))
 
-pub returns-then-arrives-departs : goal.returns-then-arrives-departs
-returns-then-arrives-departs c =
-    let es = listed c.args.self.now in
-    let p = c.loop-point.point in
-    let loose = loose_by es p c.arrives.result c.departs.result _ c.arrives.ensures c.departs.ensures c.if-arrives-departs.true in
-    let told_so = point_stops es p (omega arith) loose ∙ c.loop-point.invariant in
-    record { answered = told_so; tied = exactly_tied es (Err (LoosePoint p)) told_so }
+pub returns-in-Some-clause-answered : goal.returns-in-Some-clause-answered
+returns-in-Some-clause-answered c =
+    ap (refused 12) c.from.ensures ∙ first_loose (listed c.args.self.now) c.in-Some.point (search (rules, ranges)) (search (rules, ranges)) (before c) (search (rules, ranges))
 
-pub returns : goal.returns
-returns c =
-    let es = listed c.args.self.now in
-    let told_so = points_over es c.loop-point.point (omega arith) ∙ c.loop-point.invariant in
-    record { answered = told_so; tied = exactly_tied es (Ok tt) told_so }
+pub returns-in-None-clause-answered : goal.returns-in-None-clause-answered
+returns-in-None-clause-answered c = none_loose (listed c.args.self.now) (none c)
+
+pub returns-in-None-clause-tied : goal.returns-in-None-clause-tied
+returns-in-None-clause-tied c = tied_by (listed c.args.self.now) (none c)
