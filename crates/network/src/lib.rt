@@ -57,7 +57,7 @@ pub struct CaseData {
     pub case_number: u8,
     pub ship_kind: u8,
     pub zones: u8,
-    // 0 and no Option: the rules count what is not given as no time at all
+    // 0 and no Option: files give 0 where no time is given, and the rules read 1,800 there
     pub embarkation: u32,
 }
 
