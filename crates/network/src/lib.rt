@@ -29,7 +29,7 @@ pub struct UnknownKind(pub u8);
 pub struct Draft {
     // a byte and no Kind: nothing is checked yet, and every byte that a caller or a file gives needs a place
     pub kind: u8,
-    // 0 beside the points and no Option, for the same reason: files give one byte
+    // 0 for a source and for the station, and no Option: a caller or a file gives one byte, and any byte
     pub from: u8,
     pub to: u8,
     pub width: u32,
@@ -41,7 +41,7 @@ pub struct Draft {
 #[derive(Clone, Copy, Debug, Default, PartialEq, Eq)]
 pub struct Element {
     pub kind: Kind,
-    // the draft's bytes, with their 0: the order of points and the records of files read them as numbers
+    // the draft's bytes, 0 among them: the rules and the records of files read source and station as number 0
     pub from: u8,
     pub to: u8,
     pub width: u32,
@@ -57,7 +57,7 @@ pub struct CaseData {
     pub case_number: u8,
     pub ship_kind: u8,
     pub zones: u8,
-    // 0 and no Option: files give 0 where no time is given, and the rules read 1,800 there
+    // 0 and no Option: a caller or a file that gives none gives 0, and the rules say what that stands for
     pub embarkation: u32,
 }
 

@@ -19,7 +19,8 @@ impl ElementTable {
     }
 
     pub fn count(&self) -> usize
-        ensures { result ≡ length (listed self.now) }
+        ensures value { result ≡ length (listed self.now) }
+        ensures fits { result ≤ 128 }
     {
         self.elements.len()
     }
