@@ -5,3 +5,4 @@ pub mod Shifts
 pub mod Counts
 pub mod Points
 pub mod Readiness
+pub mod Standing

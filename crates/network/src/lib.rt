@@ -4,10 +4,12 @@ ghost use Rattle.std.specs.Prelude.{◌≡◌, ◌≤◌, length};
 
 mod checks;
 mod kinds;
+mod ready;
 mod refusals;
 mod table;
 
 pub use checks::{check_case, check_element};
+pub use ready::ReadyNetwork;
 
 // What a passage of the escape routes is.
 #[derive(Clone, Copy, PartialEq, Eq)]
