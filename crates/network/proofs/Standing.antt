@@ -1,5 +1,5 @@
 -- What a type keeps is known as a fact that has no proof to show; here the proofs come back.
-use Rattle.std.proofs.Common.{false, List, [], ◌∷◌}
+use Rattle.std.proofs.Common.{ℕ, ◌<◌, false, List, [], ◌∷◌, length}
 use mathlib.Core.Logic.{∥∥₁_elim, ∥∥₁_map}
 use mathlib.Core.HLevel.{Unit-prop, ×_prop}
 use mathlib.Core.Bool.{Bool-set}
@@ -9,9 +9,11 @@ use Rattle.network.specs.declared.Element.{Element}
 use Rattle.network.specs.Sentences.{Sentence}
 use Rattle.network.specs.Checks.{measure_sentences}
 use Rattle.network.specs.Lawful.{LawfulElement}
+use Rattle.network.specs.Elements.{el}
 use Rattle.network.specs.Ready.{Ready}
 use Rattle.network.proofs.First.{NoneTrue}
 use Rattle.network.proofs.Rules.{lawful_element, element_passes}
+use Rattle.network.proofs.Readiness.{lawful_at}
 
 none_prop : (ss : List Sentence) → IsProp (NoneTrue ss)
 none_prop [] = Unit-prop
@@ -32,3 +34,7 @@ ready_stands {es} t = record {
   aboard_most = ∥∥₁_elim t le_prop (λ r. r.aboard_most);
   tied = λ p one few. ∥∥₁_elim t (Bool-set _ _) (λ r. r.tied p one few);
 }
+
+-- each element of a network that is ready is lawful
+pub each_lawful : {es : List Element} → ∥ Ready es ∥₁ → (i : ℕ) → i < length es → ∥ LawfulElement (el es i) ∥₁
+each_lawful t i lt = ∥∥₁_map t (λ r. lawful_at r i lt)
