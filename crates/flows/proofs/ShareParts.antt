@@ -1,14 +1,18 @@
 -- The whole parts of the shares.
-use Rattle.std.proofs.Common.{◌≡◌, ℕ, ◌+◌, ◌*◌, ◌/◌, ◌%◌, ◌<◌, ◌≤◌, Bool, false, cond, ◌&&◌, ◌||◌, eqb, ltb, List, length, sym, ap, ◌∙◌, mul_comm, mul-le-mul_left, arith}
+use Rattle.std.proofs.Common.{◌≡◌, ℕ, ◌+◌, ◌-◌, ◌*◌, ◌/◌, ◌%◌, ◌^◌, ◌<◌, ◌≤◌, Bool, cond, ◌&&◌, ◌||◌, eqb, ltb, List, length, sym, ap, ◌∙◌, mul_comm, mul-le-mul_left, arith}
+use Rattle.std.specs.List.{filter, sum_by, enumerate_from}
 use native.Mathlib.Nat.{div-le_of_le-mul}
-use Rattle.std.proofs.lemmas.Bool.{eqb-true, eq-eqb, ne_eqb, lt-ltb, le-ltb, and_left, cond-true, cond-false}
+use Rattle.std.proofs.lemmas.Bool.{lt-ltb, le-ltb, cond-true, cond-false}
 use Rattle.exact.specs.Sums.{sum_where, count_where}
 use Rattle.exact.proofs.SumLaws.{where_mono}
 use Rattle.network.specs.declared.Element.{Element}
-use Rattle.network.specs.Elements.{el, leaves}
+use Rattle.network.specs.Elements.{el, leaves, no_element}
+use Rattle.network.specs.Ready.{Ready}
+use Rattle.network.proofs.Readiness.{lawful_at}
+use Rattle.network.proofs.Standing.{ready_stands}
 use Rattle.sheet.specs.Shares.{width_out, part, remainder, before, left_over, share}
 use Rattle.sheet.proofs.ShareLaws.{wide_le, shares_all}
-use Rattle.flows.proofs.PointSums.{where_small}
+use Rattle.flows.proofs.PointSums.{where_small, sum_chosen, count_chosen}
 
 module _ (es : List Element) (p n i : ℕ) (s r : ℕ) (all : s ≡ width_out es p) where
   pub part_by : r ≡ n * (el es i).width / s → r ≡ part es p n i
@@ -22,31 +26,55 @@ module _ (es : List Element) (p n : ℕ) where
   pub part_le : (i : ℕ) → i < length es → (el es i).from ≡ p → part es p n i ≤ n
   part_le i l h = div-le_of_le-mul (width_out es p) (omega (arith, mul-le-mul_left n (wide_le es p i l h), mul_comm n (width_out es p)))
 
-  pub parts_small : (i : ℕ) → i ≤ length es → length es ≤ 128 → sum_where i (leaves es p) (part es p n) ≤ 128 * n
-  parts_small i l few = where_small (leaves es p) (part es p n) n 128 i (λ k b h. part_le k (omega arith) (eqb-true _ _ h)) (omega arith)
-
   -- and so are all of them
   pub parts_le : 0 < width_out es p → sum_where (length es) (leaves es p) (part es p n) ≤ n
   unfolding share
   parts_le some = omega (arith, where_mono (length es) (leaves es p) (part es p n) (share es p n) (λ i l h. omega arith), shares_all es p n some)
 
--- who is served first, where a loop's counter j stands beside the index k
-abbrev first_served : ℕ → ℕ → ℕ → ℕ → Bool
-first_served a b i j = ltb a b || (eqb a b && ltb j i)
+-- what the elements that leave a point have together: their widths, and their whole parts
+module _ (es : List Element) (p : ℕ) where
+  abbrev pub leaves_at : Element → Bool
+  leaves_at e = eqb e.from p
 
-module _ (es : List Element) (p n i j k : ℕ) (same : j ≡ k) where
-  pub before_by : (v : Bool) (s a b : ℕ) → s ≡ width_out es p → a ≡ n * (el es i).width % s → b ≡ n * (el es k).width % s → (el es k).from ≡ p → v ≡ first_served a b i j → before es p n i j ≡ v
-  unfolding before
-  before_by v s a b all ea eb h e =
-      let mine = remainder_by es p n i s a all ea in
-      let other = remainder_by es p n k s b all eb in
-      ap (before es p n i) same
-      ∙ ap (λ q. q && first_served (remainder es p n i) (remainder es p n k) i k) (eq-eqb _ _ h)
-      ∙ sym (e ∙ ap (λ x. first_served x b i j) mine ∙ ap (λ y. first_served (remainder es p n i) y i j) other ∙ ap (first_served (remainder es p n i) (remainder es p n k) i) same)
+  abbrev pub wide : Element → ℕ
+  wide e = e.width
 
-  pub before_not : ((el es k).from ≡ p → ⊥) → before es p n i j ≡ false
+  pub width_all : sum_by wide (filter leaves_at es) ≡ width_out es p
+  unfolding width_out
+  width_all = sum_chosen leaves_at wide no_element es
+
+  pub width_fits : ∥ Ready es ∥₁ → sum_by wide (filter leaves_at es) < 2 ^ 32
+  unfolding width_out
+  width_fits kept =
+      let ready = ready_stands kept in
+      omega (arith, width_all, where_small (leaves es p) (λ k. (el es k).width) 10000 128 (length es) (λ k l _. (lawful_at ready k l).narrow) ready.few)
+
+  module _ (n s : ℕ) (all : s ≡ width_out es p) (some : 0 < s) where
+    abbrev pub part_of : Element → ℕ
+    part_of e = n * e.width / s
+
+    pub parts_all : sum_by part_of (filter leaves_at es) ≡ sum_where (length es) (leaves es p) (part es p n)
+    parts_all = sum_chosen leaves_at part_of no_element es ∙ ap (λ q. sum_where (length es) (leaves es p) (λ i. n * (el es i).width / q)) all
+
+    pub given_le : sum_by part_of (filter leaves_at es) ≤ n
+    given_le = omega (arith, parts_all, parts_le es p n (omega arith))
+
+    pub left_by : (given : ℕ) → given ≡ sum_by part_of (filter leaves_at es) → n - given ≡ left_over es p n
+    unfolding left_over
+    left_by given h = ap (λ k. n - k) (h ∙ parts_all)
+
+-- who is served before the element i, whose remainder is own
+module _ (es : List Element) (p n i : ℕ) (s own : ℕ) (all : s ≡ width_out es p) (mine : own ≡ n * (el es i).width % s) where
+  abbrev pub served_first : ℕ × Element → Bool
+  served_first q = eqb q.1.from p && (ltb own (n * q.1.width % s) || (eqb own (n * q.1.width % s) && ltb q.0 i))
+
+  pub ranked : length (filter served_first (enumerate_from 0 es)) ≡ count_where (length es) (before es p n i)
   unfolding before
-  before_not h = ap (before es p n i) same ∙ and_left _ _ (ne_eqb _ _ h)
+  ranked =
+      let earlier : ℕ → ℕ → ℕ → Bool = λ a b j. eqb (el es j).from p && (ltb a b || (eqb a b && ltb j i)) in
+      count_chosen served_first no_element (before es p n i) es
+      (λ j. ap (λ a. earlier a (n * (el es j).width % s) j) (remainder_by es p n i s own all mine)
+      ∙ ap (λ q. earlier (remainder es p n i) (n * (el es j).width % q) j) all)
 
 -- the share, by the part r and how many the code counts before i
 module _ (es : List Element) (p n i : ℕ) (s r left count : ℕ) (all : s ≡ width_out es p) (whole : r ≡ n * (el es i).width / s)

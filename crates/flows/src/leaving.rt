@@ -3,13 +3,13 @@ ghost use Rattle.exact.specs.Fractions.{Fraction, scaled};
 ghost use Rattle.exact.specs.Worked.{ends, around, rising};
 ghost use Rattle.walking.specs.Curves.{curve_of};
 ghost use Rattle.curves.specs.Reading.{mega};
-ghost use Rattle.network.specs.Lawful.{LawfulElement};
 ghost use Rattle.sheet.specs.Lines.{shown};
 ghost use Rattle.sheet.specs.Points.{last_entry, most, speed_at, cut, leaving};
 
-use super::lines::{NO_ENDS, line_of};
+use super::curves::walking_curve;
+use super::lines::NO_ENDS;
+use super::{Passage, Passing};
 use exact::{Ends, Quotient};
-use network::{Element, Kind};
 use reading::{flow_through, read_falling};
 use sheet::Line;
 use walking::WalkingTables;
@@ -35,26 +35,6 @@ pub fn specific_flow(flow: Ends, width: u32) -> Ends
     }
 }
 
-// The last entry of a curve, in billionths.
-fn last_entry<T: WalkingTables>(tables: &T, curve: u8) -> u64
-    ensures { result ≡ last_entry (curve_of (T.WalkingTables.meaning tables.now) curve) * mega }
-{
-    let last = tables.rows(curve) - 1;
-    tables.row(curve, last).0 as u64 * 1_000_000
-}
-
-// The greatest specific flow that an element of a kind takes.
-fn greatest_flow<T: WalkingTables>(tables: &T, kind: Kind) -> u64
-    ensures { result ≡ most (T.WalkingTables.meaning tables.now) kind }
-{
-    match kind {
-        Kind::Corridor => last_entry(tables, 2),
-        Kind::Door => tables.door_flow() as u64 * 1_000_000,
-        Kind::StairDown => last_entry(tables, 3),
-        Kind::StairUp => last_entry(tables, 4),
-    }
-}
-
 fn cut_to(greatest: u64, specific_flow: Ends) -> Ends
     ensures value { (x : Fraction) → result ≡ ends (cut greatest (around specific_flow x)) }
     ensures lower { result.lower ≤ greatest }
@@ -66,39 +46,48 @@ fn cut_to(greatest: u64, specific_flow: Ends) -> Ends
     }
 }
 
-// The speed at a specific flow; a door has none.
-fn speed_of<T: WalkingTables>(tables: &T, kind: Kind, specific_flow: Ends) -> Ends
-    ensures { (x : Fraction) → result ≡ ends (speed_at (T.WalkingTables.meaning tables.now) kind (around specific_flow x)) }
-{
-    match kind {
-        Kind::Corridor => read_falling(tables, 2, specific_flow),
-        Kind::Door => NO_ENDS,
-        Kind::StairDown => read_falling(tables, 3, specific_flow),
-        Kind::StairUp => read_falling(tables, 4, specific_flow),
+impl<T: WalkingTables> Passage<'_, T> {
+    // The last entry of a curve, in billionths.
+    fn last_entry(&self, curve: u8) -> u64
+        ensures { result ≡ last_entry (curve_of (T.WalkingTables.meaning self.now.tables.now) curve) * mega }
+    {
+        let last = self.tables.rows(curve) - 1;
+        self.tables.row(curve, last).0 as u64 * 1_000_000
     }
-}
 
-// The line of an element with so many persons that leaves a point, where the specific flow in is given. It is cut to the
-// greatest that the element takes, which means a queue.
-pub fn leaving_line<T: WalkingTables>(
-    tables: &T,
-    element: &Element,
-    specific_flow: Ends,
-    persons: u32,
-) -> Line
-    requires lawful { LawfulElement element.now }
-    requires few { persons ≤ 8000 }
-    ensures { (x : Fraction) → result ≡ shown element.now (leaving (T.WalkingTables.meaning tables.now) element.now (around specific_flow x) persons) }
-{
-    let greatest = greatest_flow(tables, element.kind);
-    let taken = cut_to(greatest, specific_flow);
-    let flow = flow_through(element.width, taken);
-    let speed = speed_of(tables, element.kind, taken);
-    line_of(
-        element,
-        persons,
-        specific_flow.upper > greatest,
-        flow,
-        speed,
-    )
+    // The greatest specific flow that the element takes.
+    fn greatest_flow(&self) -> u64
+        ensures { result ≡ most (T.WalkingTables.meaning self.now.tables.now) self.now.element.now.kind }
+    {
+        match walking_curve(self.element.kind) {
+            Some(curve) => self.last_entry(curve),
+            None => self.tables.door_flow() as u64 * 1_000_000,
+        }
+    }
+
+    // The speed at a specific flow; a door has none.
+    fn speed(&self, specific_flow: Ends) -> Ends
+        ensures { (x : Fraction) → result ≡ ends (speed_at (T.WalkingTables.meaning self.now.tables.now) self.now.element.now.kind (around specific_flow x)) }
+    {
+        match walking_curve(self.element.kind) {
+            Some(curve) => read_falling(self.tables, curve, specific_flow),
+            None => NO_ENDS,
+        }
+    }
+
+    // The line of the element where so many persons leave a point by it, and the specific flow in is given. It is cut to
+    // the greatest that the element takes, which means a queue.
+    pub fn leaving_line(&self, specific_flow: Ends, persons: u32) -> Line
+        requires few { persons ≤ 8000 }
+        ensures { (x : Fraction) → result ≡ shown self.now.element.now (leaving (T.WalkingTables.meaning self.now.tables.now) self.now.element.now (around specific_flow x) persons) }
+    {
+        let greatest = self.greatest_flow();
+        let taken = cut_to(greatest, specific_flow);
+        self.line(Passing {
+            persons,
+            queue: specific_flow.upper > greatest,
+            flow: flow_through(self.element.width, taken),
+            speed: self.speed(taken),
+        })
+    }
 }

@@ -1,20 +1,41 @@
 #![tactic(auto)]
 
-ghost use Rattle.std.specs.Prelude.{◌<◌, ◌≤◌};
+ghost use Rattle.std.specs.Prelude.{◌≡◌, ◌<◌, ◌≤◌};
+ghost use Rattle.network.specs.Lawful.{LawfulElement};
+ghost use Rattle.sheet.specs.Shares.{width_out as width_leaving};
 
 use exact::Ends;
+use network::{Element, ReadyNetwork};
 
+mod curves;
 mod leaving;
 mod lines;
 mod points;
 mod shares;
 mod sources;
 
-pub use leaving::{leaving_line, specific_flow};
+pub use leaving::specific_flow;
 pub use lines::NO_LINE;
 pub use points::arrivals_at;
 pub use shares::width_out;
-pub use sources::source_line;
+
+// An element that is worked by walking tables.
+#[derive(Drop)]
+pub struct Passage<'a, T> {
+    pub tables: &'a T,
+    pub element: &'a Element,
+    ghost lawful: { ∥ LawfulElement element.now ∥₁ },
+}
+
+// What passes an element: the persons, whether they queue, their flow, and the speed at which they walk.
+#[derive(Clone, Copy)]
+pub(crate) struct Passing {
+    persons: u32,
+    queue: bool,
+    flow: Ends,
+    speed: Ends,
+    ghost few: { persons ≤ 8000 },
+}
 
 // What comes to a point: the flows together, and the persons together.
 #[derive(Clone, Copy)]
@@ -26,10 +47,12 @@ pub struct Arrivals {
 // The persons who come to a point. The elements that leave it share them by their widths, and the width here is that of all
 // these elements together.
 #[derive(Clone, Copy)]
-pub struct Sharing {
+pub struct Sharing<'a> {
+    pub network: ReadyNetwork<'a>,
     pub point: u8,
     pub persons: u32,
     pub width: u32,
     ghost few: { persons ≤ 8000 },
     ghost some: { 0 < width },
+    ghost all: { width ≡ width_leaving network.elements.now point },
 }

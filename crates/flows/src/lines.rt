@@ -1,10 +1,11 @@
-ghost use Rattle.std.specs.Prelude.{◌≡◌, ◌*◌, ◌^◌, ◌≤◌, if◌then◌else◌, nat_eq};
+ghost use Rattle.std.specs.Prelude.{◌≡◌, ◌*◌, ◌^◌, if◌then◌else◌, nat_eq};
 ghost use Rattle.exact.specs.Fractions.{Fraction, whole, over};
 ghost use Rattle.exact.specs.Worked.{ends, around, exactly, rounded, falling};
 ghost use Rattle.sheet.specs.Lines.{shown, walk};
 
+use super::{Passage, Passing};
 use exact::{Ends, Quotient};
-use network::{Element, Kind};
+use network::Kind;
 use sheet::Line;
 
 // No flow, no speed, no time.
@@ -46,54 +47,52 @@ fn time_between(amount: u64, rate: Ends) -> Ends
     }
 }
 
-// How long a walk over a length takes; a door has no way to walk.
-fn walk_time(kind: Kind, length: u32, speed: Ends) -> Ends
-    requires { length ≤ 100000 }
-    ensures { (x : Fraction) → result ≡ ends (walk kind length (around speed x)) }
-{
-    match kind {
-        Kind::Door => NO_ENDS,
-        Kind::Corridor | Kind::StairDown | Kind::StairUp => time_between(
-            length as u64 * 1_000_000_000_000,
-            speed,
-        ),
+impl Passing {
+    // How long it takes until all have passed; nobody takes no time.
+    fn passing_time(&self) -> Ends
+        ensures { (x : Fraction) → result ≡ ends (if nat_eq self.now.persons 0 then exactly 0 else falling (over (self.now.persons * 10 ^ 15)) (around self.now.flow x)) }
+    {
+        if self.persons == 0 {
+            return NO_ENDS;
+        }
+        time_between(self.persons as u64 * 1_000_000_000_000_000, self.flow)
     }
 }
 
-// How long it takes until all have passed; nobody takes no time.
-fn passing_time(persons: u32, flow: Ends) -> Ends
-    requires { persons ≤ 8000 }
-    ensures { (x : Fraction) → result ≡ ends (if nat_eq persons 0 then exactly 0 else falling (over (persons * 10 ^ 15)) (around flow x)) }
-{
-    if persons == 0 {
-        return NO_ENDS;
+impl<T> Passage<'_, T> {
+    // How long a walk from end to end takes; a door has no way to walk.
+    fn walk_time(&self, speed: Ends) -> Ends
+        ensures { (x : Fraction) → result ≡ ends (walk self.now.element.now.kind self.now.element.now.length (around speed x)) }
+    {
+        match self.element.kind {
+            Kind::Door => NO_ENDS,
+            Kind::Corridor | Kind::StairDown | Kind::StairUp => {
+                time_between(self.element.length as u64 * 1_000_000_000_000, speed)
+            }
+        }
     }
-    time_between(persons as u64 * 1_000_000_000_000_000, flow)
-}
 
-// How long one of them walks; nobody takes no time.
-fn travel_time(element: &Element, persons: u32, speed: Ends) -> Ends
-    requires { element.now.length ≤ 100000 }
-    ensures { (x : Fraction) → result ≡ ends (if nat_eq persons 0 then exactly 0 else walk element.now.kind element.now.length (around speed x)) }
-{
-    if persons == 0 {
-        return NO_ENDS;
+    // How long one of those who pass walks; nobody takes no time.
+    fn travel_time(&self, passing: Passing) -> Ends
+        ensures { (x : Fraction) → result ≡ ends (if nat_eq passing.persons 0 then exactly 0 else walk self.now.element.now.kind self.now.element.now.length (around passing.speed x)) }
+    {
+        if passing.persons == 0 {
+            return NO_ENDS;
+        }
+        self.walk_time(passing.speed)
     }
-    walk_time(element.kind, element.length, speed)
-}
 
-// The line of an element with what passes it.
-pub(crate) fn line_of(element: &Element, persons: u32, queue: bool, flow: Ends, speed: Ends) -> Line
-    requires short { element.now.length ≤ 100000 }
-    requires few { persons ≤ 8000 }
-    ensures { (x y : Fraction) → result ≡ shown element.now (record { persons = persons; queue = queue; flow = around flow x; speed = around speed y }) }
-{
-    Line {
-        persons,
-        queue,
-        flow,
-        speed,
-        flow_duration: passing_time(persons, flow),
-        travel: travel_time(element, persons, speed),
+    // The line of the element with what passes it.
+    pub(crate) fn line(&self, passing: Passing) -> Line
+        ensures { (x y : Fraction) → result ≡ shown self.now.element.now (record { persons = passing.persons; queue = passing.queue; flow = around passing.flow x; speed = around passing.speed y }) }
+    {
+        Line {
+            persons: passing.persons,
+            queue: passing.queue,
+            flow: passing.flow,
+            speed: passing.speed,
+            flow_duration: passing.passing_time(),
+            travel: self.travel_time(passing),
+        }
     }
 }

@@ -14,14 +14,12 @@ pub fn arrivals_at(elements: &[Element], sheet: &[Line], point: u8) -> Arrivals
     let mut lower = 0;
     let mut upper = 0;
     let mut persons = 0;
-    let mut i = 0;
-    for element in elements {
+    for (element, line) in elements.iter().zip(sheet) {
         if element.to == point {
-            lower += sheet[i].flow.lower;
-            upper += sheet[i].flow.upper;
-            persons += sheet[i].persons;
+            lower += line.flow.lower;
+            upper += line.flow.upper;
+            persons += line.persons;
         }
-        i += 1;
     }
     Arrivals {
         flow: Ends { lower, upper },

@@ -3,13 +3,14 @@ ghost use Rattle.exact.specs.Worked.{ends, exactly as whole};
 ghost use Rattle.walking.specs.Curves.{curve_of};
 ghost use Rattle.curves.specs.Reading.{mega};
 ghost use Rattle.network.specs.declared.Kind.TheVariants.{Corridor, Door};
-ghost use Rattle.network.specs.Lawful.{LawfulElement};
 ghost use Rattle.sheet.specs.Lines.{shown};
 ghost use Rattle.sheet.specs.Sources.{row_speed as speed_of_row, first_speed as speed_at_start, empty_source as empty_line, full_source as full_line, source};
 
-use super::lines::{NO_ENDS, line_of};
+use super::curves::starting_curve;
+use super::lines::NO_ENDS;
+use super::{Passage, Passing};
 use exact::Ends;
-use network::{Element, Kind};
+use network::Kind;
 use reading::{SourceCorridor, flow_through};
 use sheet::Line;
 use walking::WalkingTables;
@@ -25,84 +26,87 @@ fn exactly(thousandths: u32) -> Ends
     }
 }
 
-// The speed of row 0 of a curve.
-fn row_speed<T: WalkingTables>(tables: &T, curve: u8) -> Ends
-    ensures { result ≡ ends (speed_of_row (curve_of (T.WalkingTables.meaning tables.now) curve)) }
-{
-    exactly(tables.row(curve, 0).2)
-}
-
-// The speed of a source without persons.
-fn first_speed<T: WalkingTables>(tables: &T, kind: Kind) -> Ends
-    ensures { result ≡ ends (speed_at_start (T.WalkingTables.meaning tables.now) kind) }
-{
-    match kind {
-        Kind::Corridor => row_speed(tables, 1),
-        Kind::Door => NO_ENDS,
-        Kind::StairDown => row_speed(tables, 3),
-        Kind::StairUp => row_speed(tables, 4),
+impl<T: WalkingTables> Passage<'_, T> {
+    // The speed of row 0 of a curve.
+    fn row_speed(&self, curve: u8) -> Ends
+        ensures { result ≡ ends (speed_of_row (curve_of (T.WalkingTables.meaning self.now.tables.now) curve)) }
+    {
+        exactly(self.tables.row(curve, 0).2)
     }
-}
 
-// A source where nobody starts.
-fn empty_source<T: WalkingTables>(tables: &T, element: &Element) -> Line
-    requires { LawfulElement element.now }
-    ensures { result ≡ shown element.now (empty_line (T.WalkingTables.meaning tables.now) element.now) }
-{
-    line_of(
-        element,
-        0,
-        false,
-        NO_ENDS,
-        first_speed(tables, element.kind),
-    )
-}
-
-// Persons who stand in a corridor: flow and speed are those of their density.
-fn full_corridor<T: WalkingTables>(tables: &T, element: &Element) -> Line
-    requires lawful { LawfulElement element.now }
-    requires corridor { element.now.kind ≡ Corridor }
-    ensures { result ≡ shown element.now (full_line (T.WalkingTables.meaning tables.now) Corridor element.now) }
-{
-    let corridor = SourceCorridor {
-        persons: element.persons,
-        width: element.width,
-        length: element.length,
-    };
-    let figures = corridor.figures(tables);
-    line_of(element, element.persons, false, figures.flow, figures.speed)
-}
-
-// Persons behind a door: they pass it at the door flow.
-fn full_door<T: WalkingTables>(tables: &T, element: &Element) -> Line
-    requires { LawfulElement element.now }
-    ensures { result ≡ shown element.now (full_line (T.WalkingTables.meaning tables.now) Door element.now) }
-{
-    let flow = flow_through(element.width, exactly(tables.door_flow()));
-    line_of(element, element.persons, false, flow, NO_ENDS)
-}
-
-// A source with persons, by its kind; in a stair nobody starts.
-fn full_source<T: WalkingTables>(tables: &T, element: &Element) -> Line
-    requires { LawfulElement element.now }
-    ensures { result ≡ shown element.now (full_line (T.WalkingTables.meaning tables.now) element.now.kind element.now) }
-{
-    match element.kind {
-        Kind::Corridor => full_corridor(tables, element),
-        Kind::Door => full_door(tables, element),
-        Kind::StairDown => empty_source(tables, element),
-        Kind::StairUp => empty_source(tables, element),
+    // The speed of a source without persons.
+    fn first_speed(&self) -> Ends
+        ensures { result ≡ ends (speed_at_start (T.WalkingTables.meaning self.now.tables.now) self.now.element.now.kind) }
+    {
+        match starting_curve(self.element.kind) {
+            Some(curve) => self.row_speed(curve),
+            None => NO_ENDS,
+        }
     }
-}
 
-// The line of a source.
-pub fn source_line<T: WalkingTables>(tables: &T, element: &Element) -> Line
-    requires { LawfulElement element.now }
-    ensures { result ≡ shown element.now (source (T.WalkingTables.meaning tables.now) element.now) }
-{
-    if element.persons == 0 {
-        empty_source(tables, element)
-    } else {
-        full_source(tables, element)
+    // A source where nobody starts.
+    fn empty_source(&self) -> Line
+        ensures { result ≡ shown self.now.element.now (empty_line (T.WalkingTables.meaning self.now.tables.now) self.now.element.now) }
+    {
+        self.line(Passing {
+            persons: 0,
+            queue: false,
+            flow: NO_ENDS,
+            speed: self.first_speed(),
+        })
+    }
+
+    // Persons who stand in a corridor: flow and speed are those of their density.
+    fn full_corridor(&self) -> Line
+        requires { self.now.element.now.kind ≡ Corridor }
+        ensures { result ≡ shown self.now.element.now (full_line (T.WalkingTables.meaning self.now.tables.now) Corridor self.now.element.now) }
+    {
+        let corridor = SourceCorridor {
+            persons: self.element.persons,
+            width: self.element.width,
+            length: self.element.length,
+        };
+        let figures = corridor.figures(self.tables);
+        self.line(Passing {
+            persons: self.element.persons,
+            queue: false,
+            flow: figures.flow,
+            speed: figures.speed,
+        })
+    }
+
+    // Persons behind a door: they pass it at the door flow.
+    fn full_door(&self) -> Line
+        ensures { result ≡ shown self.now.element.now (full_line (T.WalkingTables.meaning self.now.tables.now) Door self.now.element.now) }
+    {
+        let specific_flow = exactly(self.tables.door_flow());
+        self.line(Passing {
+            persons: self.element.persons,
+            queue: false,
+            flow: flow_through(self.element.width, specific_flow),
+            speed: NO_ENDS,
+        })
+    }
+
+    // A source with persons, by its kind; in a stair nobody starts.
+    fn full_source(&self) -> Line
+        ensures { result ≡ shown self.now.element.now (full_line (T.WalkingTables.meaning self.now.tables.now) self.now.element.now.kind self.now.element.now) }
+    {
+        match self.element.kind {
+            Kind::Corridor => self.full_corridor(),
+            Kind::Door => self.full_door(),
+            Kind::StairDown | Kind::StairUp => self.empty_source(),
+        }
+    }
+
+    // The line of a source.
+    pub fn source_line(&self) -> Line
+        ensures { result ≡ shown self.now.element.now (source (T.WalkingTables.meaning self.now.tables.now) self.now.element.now) }
+    {
+        if self.element.persons == 0 {
+            self.empty_source()
+        } else {
+            self.full_source()
+        }
     }
 }

@@ -4,3 +4,4 @@ pub mod Rules
 pub mod Counts
 pub mod Points
 pub mod Readiness
+pub mod Standing

@@ -2,11 +2,13 @@
 
 mod checks;
 mod kinds;
+mod ready;
 mod refusals;
 mod table;
 
 use arrayvec::ArrayVec;
 pub use checks::{check_case, check_element};
+pub use ready::ReadyNetwork;
 
 // What a passage of the escape routes is. The default stands in the unused places of a table only.
 #[derive(Clone, Copy, Debug, Default, PartialEq, Eq)]

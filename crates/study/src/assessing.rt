@@ -4,11 +4,12 @@ ghost use Rattle.ledger.specs.declared.Stage.TheVariants.{Closed};
 ghost use Rattle.study.specs.Studies.{ledger_of, told_found, wrote, asked, FollowsLedger};
 
 use super::*;
+use network::ReadyNetwork;
 use routes::find_ends;
 use sheet::Line;
 use verdicts::judge;
 use walking::RuleBook;
-use worksheet::work_out;
+use worksheet::Filling;
 
 impl Study {
     // The finding of a closed study, with its worksheet written to the first lines.
@@ -25,7 +26,12 @@ impl Study {
         if lines.len() < elements.len() {
             return Err(Refusal::WorksheetTooShort);
         }
-        work_out(book, elements, lines)?;
+        let network = ReadyNetwork { elements };
+        Filling {
+            tables: book,
+            network,
+        }
+        .work_out(lines)?;
         let ends = find_ends(elements, lines);
         Ok(Finding {
             verdict: judge(book, case_data, ends.lower, ends.upper),

@@ -7,7 +7,7 @@ use Rattle.sheet.specs.declared.Line.{Line}
 use Rattle.sheet.specs.Lines.{WorkedLine, no_line}
 use Rattle.sheet.specs.Sheet.{worked, sheet, lines}
 use Rattle.worksheet.specs.Stages.{Holds, shown_at, held}
-use Rattle.worksheet.proofs.Laid.{laid_at, laid_long, laid_past}
+use Rattle.worksheet.proofs.Laid.{laid_at, laid_long, laid_none, laid_past}
 
 module _ (es : List Element) (ws : List WorkedLine) (ys : List Line) where
   holds : length es ≤ length ys → Holds es ws (held es ws ys)
@@ -31,16 +31,18 @@ held_lines : (t : Tables) (es : List Element) (ys : List Line) → held es (work
 unfolding held lines sheet
 held_lines t es ys = refl
 
--- point after point: zs is what the slice held once the sources' lines were written over ys
-module _ (t : Tables) (es : List Element) (zs : List Line) where
-  pub points_begin : (ys : List Line) → zs ≡ held es (worked t es 0) ys → zs ≡ held es (worked t es 0) zs
-  points_begin ys e = e ∙ sym (held_over es (worked t es 0) ys (worked t es 0) zs e)
+module _ (t : Tables) (es : List Element) where
+  -- point after point, where ys holds the sources' lines
+  module _ (ys : List Line) where
+    pub points_begin : Holds es (worked t es 0) ys → ys ≡ held es (worked t es 0) ys
+    unfolding held
+    points_begin h = laid_none no_line (shown_at es (worked t es 0)) ys (length es) h.room h.lines
 
-  pub points_go_on : (p : ℕ) (xs vs : List Line) → xs ≡ held es (worked t es (p - 1)) zs → vs ≡ held es (worked t es p) xs → vs ≡ held es (worked t es ((p + 1) - 1)) zs
-  points_go_on p xs vs e h =
-      let here : p ≡ (p + 1) - 1 = omega arith in
-      h ∙ held_over es (worked t es p) zs (worked t es (p - 1)) xs e ∙ ap (λ m. held es (worked t es m) zs) here
+    pub points_go_on : (p : ℕ) (xs vs : List Line) → xs ≡ held es (worked t es (p - 1)) ys → vs ≡ held es (worked t es p) xs → vs ≡ held es (worked t es ((p + 1) - 1)) ys
+    points_go_on p xs vs e h =
+        let here : p ≡ (p + 1) - 1 = omega arith in
+        h ∙ held_over es (worked t es p) ys (worked t es (p - 1)) xs e ∙ ap (λ m. held es (worked t es m) ys) here
 
-  pub points_end : (p : ℕ) (xs ys : List Line) → p - 1 ≡ 64 → zs ≡ held es (worked t es 0) ys → xs ≡ held es (worked t es (p - 1)) zs → xs ≡ lines t es ++ drop (length es) ys
-  points_end p xs ys last e h =
-      h ∙ ap (λ m. held es (worked t es m) zs) last ∙ held_over es (worked t es 64) ys (worked t es 0) zs e ∙ held_lines t es ys
+  -- all points, where zs are the sources' lines over ys
+  pub points_end : (ys zs xs : List Line) → zs ≡ held es (worked t es 0) ys → xs ≡ held es (worked t es 64) zs → xs ≡ lines t es ++ drop (length es) ys
+  points_end ys zs xs e h = h ∙ held_over es (worked t es 64) ys (worked t es 0) zs e ∙ held_lines t es ys

@@ -1,7 +1,13 @@
 #![tactic(auto)]
 
-mod filling;
+use network::ReadyNetwork;
+
+mod stages;
 mod thin_flows;
 
-pub use filling::fill_worksheet;
-pub use thin_flows::{clear_lines, first_thin, work_out};
+// A network that is ready, and the walking tables by which its worksheet is filled.
+#[derive(Drop)]
+pub struct Filling<'t, 'n, T> {
+    pub tables: &'t T,
+    pub network: ReadyNetwork<'n>,
+}

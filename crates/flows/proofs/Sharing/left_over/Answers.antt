@@ -1,54 +1,42 @@
-use Rattle.std.proofs.Common.{◌≡◌, ◌-◌, ◌<◌, length, sym, ap, ◌∙◌, arith}
-use Rattle.exact.specs.Sums.{sum_where}
-use Rattle.exact.proofs.SumLaws.{sum_none}
-use Rattle.network.specs.Elements.{leaves}
-use Rattle.network.proofs.Readiness.{lawful_at}
-use Rattle.sheet.specs.Shares.{width_out, part, left_over}
-use Rattle.flows.proofs.PointSums.{leaves_yes, leaves_no}
-use Rattle.flows.proofs.ShareParts.{part_by, part_le, parts_small, parts_le}
+use Rattle.std.proofs.Common.{◌≡◌, ◌<◌, ◌^◌, arith, rules, tests}
+use Rattle.std.specs.List.{filter, sum_by}
+use Rattle.std.proofs.lemmas.Iterator.{YieldsList-from_slice, YieldsList-from_map}
+use Rattle.std.proofs.lemmas.Iterator.Consumers.{YieldsList-at, YieldsList-from_filter, sum_by_from_yields_List, fits_by_from_yields_list}
+use Rattle.flows.proofs.ShareParts.{leaves_at, part_of, given_le, left_by}
 use Rattle.flows.proofs.Sharing.left_over.Goals as goal
-use Rattle.flows.proofs.Sharing.left_over.Goals.{then-element-self, else-element-self}
 
-pub loop-element-init : goal.loop-element-init
-loop-element-init c = sym (sum_none _)
+pub sum-given-requires-clause-fits : goal.sum-given-requires-clause-fits
+sum-given-requires-clause-fits c =
+    let s = c.args.self.now in
+    let es = s.network.elements.now in
+    let p = s.point in
+    let part = part_of es p s.persons s.width s.all s.some in
+    let small : sum_by part (filter (leaves_at es p) es) < 2 ^ 64 = omega (arith, given_le es p s.persons s.width s.all s.some, s.few) in
+    fits_by_from_yields_list part (filter (leaves_at es p) es) c.map.result (2 ^ 64)
+    (YieldsList-from_map _ part (YieldsList-at c.map.ensures.source (YieldsList-from_filter _ (leaves_at es p) (YieldsList-from_slice es cc) c.filter.ensures.closure (λ x r q k. search (rules, tests)))) c.map.ensures.closure (λ x r q k. search (rules, tests)))
+    small
 
-pub part-given-requires : goal.part-given-requires
-part-given-requires c = (lawful_at c.requires.ready c.loop-element.element-index c.loop-element-test.true).narrow
+-- the whole parts that the chain adds up
+given : (c : goal.After-sum-given) → c.sum-given.result ≡ sum_by (part_of c.args.self.now.network.elements.now c.args.self.now.point c.args.self.now.persons c.args.self.now.width c.args.self.now.all c.args.self.now.some) (filter (leaves_at c.args.self.now.network.elements.now c.args.self.now.point) c.args.self.now.network.elements.now)
+given c =
+    let s = c.args.self.now in
+    let es = s.network.elements.now in
+    let p = s.point in
+    let part = part_of es p s.persons s.width s.all s.some in
+    sum_by_from_yields_List part (filter (leaves_at es p) es) c.map.result c.sum-given.result c.sum-given.ensures.ran
+    (YieldsList-from_map _ part (YieldsList-at c.map.ensures.source (YieldsList-from_filter _ (leaves_at es p) (YieldsList-from_slice es cc) c.filter.ensures.closure (λ x r q k. search (rules, tests)))) c.map.ensures.closure (λ x r q k. search (rules, tests)))
 
--- the part that the loop adds
-part-here : (c : goal.After-part-given) → c.part-given.result ≡ part c.args.elements.now c.args.self.now.point c.args.self.now.persons c.loop-element.element-index
-part-here c = part_by c.args.elements.now c.args.self.now.point c.args.self.now.persons c.loop-element.element-index c.args.self.now.width _ c.requires.width c.part-given.ensures
-
-pub overflow_add-given : goal.overflow_add-given
-overflow_add-given c =
-    let es = c.args.elements.now in
-    let p = c.args.self.now.point in
-    let n = c.args.self.now.persons in
-    let i = c.loop-element.element-index in
-    omega (arith, part-here c, part_le es p n i c.loop-element-test.true c.if-element-self.true, parts_small es p n i (omega arith) c.requires.ready.few, c.args.self.now.few)
-
-pub loop-element-preserved : goal.loop-element-preserved
-loop-element-preserved c =
-    let es = c.args.elements.now in
-    let p = c.args.self.now.point in
-    let n = c.args.self.now.persons in
-    let i = c.loop-element.element-index in
-    elim c.if-element-self.branch [
-      | then-element-self w ↦ omega (arith, w.given-is, part_by es p n i c.args.self.now.width _ c.requires.width w.part-given.ensures, leaves_yes es p (part es p n) i w.if-element-self.true)
-      | else-element-self w ↦ omega (arith, w.given-is, leaves_no es p (part es p n) i w.if-element-self.false)
-    ]
-
--- the loop has added all parts
-all-given : (c : goal.After-loop-element) → c.loop-element.given ≡ sum_where (length c.args.elements.now) (leaves c.args.elements.now c.args.self.now.point) (part c.args.elements.now c.args.self.now.point c.args.self.now.persons)
-all-given c =
-    let done : c.loop-element.element-index ≡ length c.args.elements.now = omega arith in
-    c.loop-element.invariant ∙ ap (λ k. sum_where k (leaves c.args.elements.now c.args.self.now.point) (part c.args.elements.now c.args.self.now.point c.args.self.now.persons)) done
+pub overflow_cast-result : goal.overflow_cast-result
+overflow_cast-result c =
+    let s = c.args.self.now in
+    omega (arith, given c, given_le s.network.elements.now s.point s.persons s.width s.all s.some, s.few)
 
 pub overflow_sub-result : goal.overflow_sub-result
 overflow_sub-result c =
-    let some : 0 < width_out c.args.elements.now c.args.self.now.point = omega (arith, c.requires.width, c.args.self.now.some) in
-    omega (arith, all-given c, parts_le c.args.elements.now c.args.self.now.point c.args.self.now.persons some)
+    let s = c.args.self.now in
+    omega (arith, given c, given_le s.network.elements.now s.point s.persons s.width s.all s.some)
 
 pub returns : goal.returns
-unfolding left_over
-returns c = ap (λ k. c.args.self.now.persons - k) (all-given c)
+returns c =
+    let s = c.args.self.now in
+    left_by s.network.elements.now s.point s.persons s.width s.all s.some c.sum-given.result (given c)

@@ -1,38 +1,46 @@
-use Rattle.std.proofs.Common.{◌≡◌, ◌<◌, length, sym, refl, arith}
-use Rattle.exact.proofs.SumLaws.{sum_none, sum_more}
-use Rattle.std.proofs.lemmas.Bool.Decides.{nat_tests}
-use Rattle.network.specs.Elements.{comes}
-use Rattle.flows.specs.Points.{line_at, line_lower, line_upper, line_persons, arrivals_at}
-use Rattle.flows.proofs.PointSums.{where_small}
+use Rattle.std.proofs.Common.{◌≡◌, length, ap, ◌∙◌, sym, arith}
+use Rattle.std.proofs.lemmas.List.{length_push}
+use Rattle.std.proofs.lemmas.Slice.Zip.{zip_turn, zip_end}
+use Rattle.network.specs.declared.Element.{Element}
+use Rattle.network.specs.Elements.{el, no_element}
+use Rattle.sheet.specs.Lines.{no_line}
+use Rattle.flows.proofs.Arriving.{none_yet, one_comes, none_comes, all_come, small_lower, small_upper, small_persons}
 use Rattle.flows.proofs.points.arrivals_at.Goals as goal
 
 pub loop-element-init : goal.loop-element-init
-loop-element-init c = (refl, sym (sum_none _), sym (sum_none _), sym (sum_none _))
+loop-element-init c = none_yet _ _ _
 
 pub overflow_add-lower : goal.overflow_add-lower
 overflow_add-lower c =
-    let i = c.loop-element.i in
-    let few : i < length c.args.elements.now = omega arith in
-    let sum = where_small (comes c.args.elements.now c.args.point) (λ k. line_lower (line_at c.args.sheet.now k)) 20000000000 128 i (λ k l _. (c.requires.small k (omega arith)).lower) (omega arith) in
-    omega (arith, (c.requires.small i few).lower)
+    let t = zip_turn c.args.elements.now c.args.sheet.now c.loop-element.yielded c.into_iter-element-iterator.result c.loop-element.element-iterator c.next.new.self _ (cc) (cc) c.loop-element.yielded_by _ c.in-Some.is c.next.ensures.steps in
+    omega (arith, small_lower c.args.elements.now c.args.sheet.now c.args.point (length c.loop-element.yielded) _ _ _ c.loop-element.invariant c.in-Some.line.now (t.3 no_line) c.requires t.0)
 
 pub overflow_add-upper : goal.overflow_add-upper
 overflow_add-upper c =
-    let i = c.loop-element.i in
-    let few : i < length c.args.elements.now = omega arith in
-    let sum = where_small (comes c.args.elements.now c.args.point) (λ k. line_upper (line_at c.args.sheet.now k)) 20000000000 128 i (λ k l _. (c.requires.small k (omega arith)).upper) (omega arith) in
-    omega (arith, (c.requires.small i few).upper)
+    let t = zip_turn c.args.elements.now c.args.sheet.now c.loop-element.yielded c.into_iter-element-iterator.result c.loop-element.element-iterator c.next.new.self _ (cc) (cc) c.loop-element.yielded_by _ c.in-Some.is c.next.ensures.steps in
+    omega (arith, small_upper c.args.elements.now c.args.sheet.now c.args.point (length c.loop-element.yielded) _ _ _ c.loop-element.invariant c.in-Some.line.now (t.3 no_line) c.requires t.0)
 
 pub overflow_add-persons : goal.overflow_add-persons
 overflow_add-persons c =
-    let i = c.loop-element.i in
-    let few : i < length c.args.elements.now = omega arith in
-    let sum = where_small (comes c.args.elements.now c.args.point) (λ k. line_persons (line_at c.args.sheet.now k)) 8000 128 i (λ k l _. (c.requires.small k (omega arith)).persons) (omega arith) in
-    omega (arith, (c.requires.small i few).persons)
+    let t = zip_turn c.args.elements.now c.args.sheet.now c.loop-element.yielded c.into_iter-element-iterator.result c.loop-element.element-iterator c.next.new.self _ (cc) (cc) c.loop-element.yielded_by _ c.in-Some.is c.next.ensures.steps in
+    omega (arith, small_persons c.args.elements.now c.args.sheet.now c.args.point (length c.loop-element.yielded) _ _ _ c.loop-element.invariant c.in-Some.line.now (t.3 no_line) c.requires t.0)
+
+pub loop-element-preserved-then-element-point : goal.loop-element-preserved-then-element-point
+loop-element-preserved-then-element-point c =
+    let t = zip_turn c.args.elements.now c.args.sheet.now c.loop-element.yielded c.into_iter-element-iterator.result c.loop-element.element-iterator c.next.new.self _ (cc) (cc) c.loop-element.yielded_by _ c.in-Some.is c.next.ensures.steps in
+    let k = length c.loop-element.yielded in
+    let to : (el c.args.elements.now k).to ≡ c.args.point = sym (ap (λ (e : Element). e.to) (t.2 no_element)) ∙ c.if-element-point.true in
+    let came = one_comes c.args.elements.now c.args.sheet.now c.args.point k _ _ _ c.loop-element.invariant c.in-Some.line.now (t.3 no_line) to in
+    rw length_push came
 
 pub loop-element-preserved : goal.loop-element-preserved
-loop-element-preserved c = let m = sum_more c.loop-element.i in grind (arith, nat_tests, m)
+loop-element-preserved c =
+    let t = zip_turn c.args.elements.now c.args.sheet.now c.loop-element.yielded c.into_iter-element-iterator.result c.loop-element.element-iterator c.next.new.self _ (cc) (cc) c.loop-element.yielded_by _ c.in-Some.is c.next.ensures.steps in
+    let k = length c.loop-element.yielded in
+    let other : (el c.args.elements.now k).to ≡ c.args.point → ⊥ = λ e. c.if-element-point.false (ap (λ (e : Element). e.to) (t.2 no_element) ∙ e) in
+    rw length_push (none_comes c.args.elements.now c.args.sheet.now c.args.point k _ _ _ c.loop-element.invariant other)
 
 pub returns : goal.returns
-unfolding arrivals_at
-returns c = let n : c.loop-element.i ≡ length c.args.elements.now = omega arith in cc
+returns c =
+    let n = zip_end c.args.elements.now c.args.sheet.now c.loop-element.yielded c.into_iter-element-iterator.result c.loop-element.element-iterator c.next.new.self _ (cc) (cc) c.loop-element.yielded_by c.in-None.is c.next.ensures.steps in
+    all_come c.args.elements.now c.args.sheet.now c.args.point (length c.loop-element.yielded) _ _ _ c.loop-element.invariant (omega (arith, n, c.requires.room))

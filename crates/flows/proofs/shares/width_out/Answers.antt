@@ -1,25 +1,22 @@
-use Rattle.std.proofs.Common.{◌≡◌, length, sym, arith}
-use Rattle.exact.proofs.SumLaws.{sum_none, sum_more}
-use Rattle.std.proofs.lemmas.Bool.Decides.{nat_tests}
-use Rattle.network.specs.Elements.{el, leaves}
-use Rattle.network.proofs.Readiness.{lawful_at}
-use Rattle.sheet.specs.Shares.{width_out}
-use Rattle.flows.proofs.PointSums.{where_small}
+use Rattle.std.proofs.Common.{◌^◌, ◌∙◌, rules, tests}
+use Rattle.std.specs.List.{filter}
+use Rattle.std.proofs.lemmas.Iterator.{YieldsList-from_slice, YieldsList-from_map}
+use Rattle.std.proofs.lemmas.Iterator.Consumers.{YieldsList-at, YieldsList-from_filter, sum_by_from_yields_List, fits_by_from_yields_list}
+use Rattle.flows.proofs.ShareParts.{leaves_at, wide, width_all, width_fits}
 use Rattle.flows.proofs.shares.width_out.Goals as goal
 
-pub loop-element-init : goal.loop-element-init
-loop-element-init c = sym (sum_none _)
-
-pub overflow_add-width : goal.overflow_add-width
-overflow_add-width c =
-    let es = c.args.elements.now in
-    let i = c.loop-element.element-index in
-    let sum = where_small (leaves es c.args.point) (λ k. (el es k).width) 10000 128 i (λ k l _. (lawful_at c.requires k (omega arith)).narrow) (omega (arith, c.requires.few)) in
-    omega (arith, (lawful_at c.requires i c.loop-element-test.true).narrow)
-
-pub loop-element-preserved : goal.loop-element-preserved
-loop-element-preserved c = let m = sum_more c.loop-element.element-index in grind (arith, nat_tests, m)
+pub sum-requires-clause-fits : goal.sum-requires-clause-fits
+sum-requires-clause-fits c =
+    let es = c.args.network.elements.now in
+    let p = c.args.point in
+    fits_by_from_yields_list (wide es p) (filter (leaves_at es p) es) c.map.result (2 ^ 32)
+    (YieldsList-from_map _ (wide es p) (YieldsList-at c.map.ensures.source (YieldsList-from_filter _ (leaves_at es p) (YieldsList-from_slice es cc) c.filter.ensures.closure (λ x r q k. search (rules, tests)))) c.map.ensures.closure (λ x r q k. search (rules, tests)))
+    (width_fits es p c.args.network.ready)
 
 pub returns : goal.returns
-unfolding width_out
-returns c = let n : c.loop-element.element-index ≡ length c.args.elements.now = omega arith in cc
+returns c =
+    let es = c.args.network.elements.now in
+    let p = c.args.point in
+    sum_by_from_yields_List (wide es p) (filter (leaves_at es p) es) c.map.result c.sum.result c.sum.ensures.ran
+    (YieldsList-from_map _ (wide es p) (YieldsList-at c.map.ensures.source (YieldsList-from_filter _ (leaves_at es p) (YieldsList-from_slice es cc) c.filter.ensures.closure (λ x r q k. search (rules, tests)))) c.map.ensures.closure (λ x r q k. search (rules, tests)))
+    ∙ width_all es p

@@ -24,9 +24,8 @@ returns-then-lines-elements g c =
       lines = short_lines l c.requires.closed b c.args.lines.now short;
     }
 
-pub work_out-requires : goal.work_out-requires
-work_out-requires g c =
-    record { ready = ready_now c.args.self.now c.requires.closed c.elements-elements.result.now c.elements-elements.ensures; room = omega arith }
+pub invariant_of-network : goal.invariant_of-network
+invariant_of-network g c = record { ready = ∣ ready_now c.args.self.now c.requires.closed c.elements-elements.result.now c.elements-elements.ensures ∣₁ }
 
 pub returns-in_err-work_out : goal.returns-in_err-work_out
 returns-in_err-work_out g c =

@@ -1,16 +1,15 @@
-use Rattle.std.proofs.Common.{sym, arith}
-use Rattle.worksheet.proofs.ThinLines.{thin_here, thin_later, thin_nowhere}
+use Rattle.std.proofs.Common.{◌≡◌, ◌+◌, ap, ◌∙◌, rules, tests}
+use Rattle.std.specs.List.{position}
+use Rattle.std.specs.Option.{option_map}
+use Rattle.std.proofs.lemmas.Iterator.{YieldsList-from_slice}
+use Rattle.std.proofs.lemmas.Iterator.Search.{position_from_yields_List}
+use Rattle.worksheet.specs.Thin.{line_thin}
+use Rattle.worksheet.proofs.ThinLines.{thin_number}
 use Rattle.worksheet.proofs.thin_flows.first_thin.Goals as goal
 
-pub returns-then-is_thin : goal.returns-then-is_thin
-returns-then-is_thin c =
-    let l = c.loop-line in
-    thin_here c.args.sheet.now l.line-index l.invariant.1 l.number c.loop-line-test.true l.invariant.0 (sym c.if-is_thin.ensures)
-
-pub loop-line-preserved : goal.loop-line-preserved
-loop-line-preserved c =
-    let l = c.loop-line in
-    (omega arith, thin_later c.args.sheet.now l.line-index l.invariant.1 c.loop-line-test.true (sym c.if-is_thin.ensures))
-
 pub returns : goal.returns
-returns c = thin_nowhere c.args.sheet.now c.loop-line.line-index c.loop-line.invariant.1 c.loop-line-test.false
+returns c =
+    let place : c.position.result ≡ position line_thin c.args.sheet.now =
+    position_from_yields_List line_thin _ _ c.position.result c.position.ensures.ran (YieldsList-from_slice c.args.sheet.now cc) (λ x b q k. search (rules, tests)) in
+    let number : c.map.result ≡ option_map (λ i. i + 1) c.position.result = search rules in
+    number ∙ ap (option_map (λ i. i + 1)) place ∙ thin_number c.args.sheet.now
