@@ -2,14 +2,14 @@
 
 ghost use Rattle.curves.specs.Laws.{DensityReadsAmid, AcrossEncloses, SpeedFalls, SpeedFallsSlowly, FallingEncloses, SpeedsInRange, ColumnsInRange};
 
-// A column of a curve that is read at its entries.
+/// A column of a curve that is read at its entries.
 #[derive(Clone, Copy, PartialEq, Eq, Debug)]
 pub enum Column {
     Flow,
     Speed,
 }
 
-// The laws of reading that hold under every lawful walking tables; it computes nothing.
+/// The laws of reading that hold under every lawful walking tables; it computes nothing.
 pub fn readings_keep_their_laws()
     ensures amid { DensityReadsAmid }
     ensures across { AcrossEncloses }

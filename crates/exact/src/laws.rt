@@ -1,6 +1,6 @@
 ghost use Rattle.exact.specs.Laws.{RisingEncloses, FallingEncloses, ScaledRises, CappedRises, OverSinks, RoundedEncloses, TotalEncloses, LeTrans, SumsAdd, SumsScale, SumsCompare};
 
-// The laws that every calculation on ends rests on; it computes nothing.
+/// The laws that every calculation on ends rests on; it computes nothing.
 pub fn exact_numbers_keep_their_laws()
     ensures rising { RisingEncloses }
     ensures falling { FallingEncloses }

@@ -5,7 +5,7 @@ ghost use Rattle.exact.specs.Worked.{ends, around, exactly, rounded, rising, fal
 use super::*;
 
 impl Ends {
-    // A whole number, which needs no rounding.
+    /// A whole number, which needs no rounding.
     pub fn exactly(value: u64) -> Ends
         ensures { result ≡ ends (exactly value) }
     {
@@ -15,7 +15,7 @@ impl Ends {
         }
     }
 
-    // What a formula that never falls makes of both ends.
+    /// What a formula that never falls makes of both ends.
     pub fn rising<F: Fn(u64) -> Ends>(self, formula: F) -> Ends
         requires lower { F.pre formula self.lower }
         requires upper { F.pre formula self.upper }
@@ -27,7 +27,7 @@ impl Ends {
         }
     }
 
-    // What a formula that never rises makes of both ends: the lower end comes from the upper one.
+    /// What a formula that never rises makes of both ends: the lower end comes from the upper one.
     pub fn falling<F: Fn(u64) -> Ends>(self, formula: F) -> Ends
         requires lower { F.pre formula self.lower }
         requires upper { F.pre formula self.upper }
@@ -39,7 +39,7 @@ impl Ends {
         }
     }
 
-    // The ends times a factor, over a divisor.
+    /// The ends times a factor, over a divisor.
     pub fn scaled(self, factor: u64, divisor: u64) -> Ends
         requires lower { self.lower * factor < 2 ^ 64 }
         requires upper { self.upper * factor < 2 ^ 64 }

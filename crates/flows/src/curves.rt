@@ -3,7 +3,7 @@ ghost use Rattle.flows.specs.Curves.{walking_curve as curve_walked, starting_cur
 
 use network::Kind;
 
-// The curves of walking tables, by their numbers.
+// The curves of walking tables: by their numbers and not by an enum, as rule books are asked.
 const BY_DENSITY: u8 = 1;
 
 const IN_CORRIDORS: u8 = 2;

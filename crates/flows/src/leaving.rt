@@ -14,7 +14,7 @@ use reading::{flow_through, read_falling};
 use sheet::Line;
 use walking::WalkingTables;
 
-// The specific flow in: flows that come to a point over the width of all that leaves it, in millimetres.
+/// The specific flow in: flows that come to a point over the width of all that leaves it, in millimetres.
 pub fn specific_flow(flow: Ends, width: u32) -> Ends
     requires lower { flow.lower ≤ 2560000000000 }
     requires upper { flow.upper ≤ 2560000000000 }
@@ -75,8 +75,8 @@ impl<T: WalkingTables> Passage<'_, T> {
         }
     }
 
-    // The line of the element where so many persons leave a point by it, and the specific flow in is given. It is cut to
-    // the greatest that the element takes, which means a queue.
+    /// The line of the element where so many persons leave a point by it, and the specific flow in is given. It is cut to
+    /// the greatest that the element takes, which means a queue.
     pub fn leaving_line(&self, specific_flow: Ends, persons: u32) -> Line
         requires few { persons ≤ 8000 }
         ensures { (x : Fraction) → result ≡ shown self.now.element.now (leaving (T.WalkingTables.meaning self.now.tables.now) self.now.element.now (around specific_flow x) persons) }

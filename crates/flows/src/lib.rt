@@ -19,7 +19,7 @@ pub use lines::NO_LINE;
 pub use points::arrivals_at;
 pub use shares::width_out;
 
-// An element that is worked by walking tables.
+/// An element that is worked by walking tables.
 #[derive(Drop)]
 pub struct Passage<'a, T> {
     pub tables: &'a T,
@@ -37,15 +37,15 @@ pub(crate) struct Passing {
     ghost few: { persons ≤ 8000 },
 }
 
-// What comes to a point: the flows together, and the persons together.
+/// What comes to a point: the flows together, and the persons together.
 #[derive(Clone, Copy)]
 pub struct Arrivals {
     pub flow: Ends,
     pub persons: u32,
 }
 
-// The persons who come to a point. The elements that leave it share them by their widths, and the width here is that of all
-// these elements together.
+/// The persons who come to a point. The elements that leave it share them by their widths, and the width here is that of all
+/// these elements together.
 #[derive(Clone, Copy)]
 pub struct Sharing<'a> {
     pub network: ReadyNetwork<'a>,

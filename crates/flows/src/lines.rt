@@ -11,7 +11,7 @@ use sheet::Line;
 // No flow, no speed, no time.
 pub(crate) const NO_ENDS: Ends = Ends { lower: 0, upper: 0 };
 
-// The line of an element that is not worked.
+/// The line of an element that is not worked.
 pub const NO_LINE: Line = Line {
     persons: 0,
     queue: false,

@@ -6,7 +6,7 @@ use exact::Ends;
 use network::Element;
 use sheet::Line;
 
-// The flows and the persons of all elements that lead to a point.
+/// The flows and the persons of all elements that lead to a point.
 pub fn arrivals_at(elements: &[Element], sheet: &[Line], point: u8) -> Arrivals
     requires { SmallLines elements.now sheet.now }
     ensures { result ≡ arrivals_of elements.now sheet.now point }

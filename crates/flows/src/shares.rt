@@ -6,7 +6,7 @@ ghost use Rattle.sheet.specs.Shares.{width_out as width_leaving, before, left_ov
 use super::Sharing;
 use network::{Element, ReadyNetwork};
 
-// The width of all that leaves a point.
+/// The width of all that leaves a point.
 pub fn width_out(network: ReadyNetwork<'_>, point: u8) -> u32
     ensures { result ≡ width_leaving network.entry.elements.now point }
 {
@@ -40,7 +40,7 @@ impl Sharing<'_> {
         self.persons as u64 * element.width as u64 % self.width as u64
     }
 
-    // The persons whom the whole parts leave over.
+    /// The persons whom the whole parts leave over.
     pub fn left_over(&self) -> u32
         ensures { result ≡ persons_left_over self.now.network.elements.now self.now.point self.now.persons }
     {
@@ -70,8 +70,8 @@ impl Sharing<'_> {
             .count()
     }
 
-    // The persons of the element i: its whole part, and one more if fewer elements are served before it than persons are left
-    // over.
+    /// The persons of the element i: its whole part, and one more if fewer elements are served before it than persons are left
+    /// over.
     pub fn share(&self, left_over: u32, i: usize) -> u32
         requires left { left_over ≡ persons_left_over self.now.network.elements.now self.now.point self.now.persons }
         requires within { i < length self.now.network.elements.now }

@@ -99,7 +99,7 @@ impl<T: WalkingTables> Passage<'_, T> {
         }
     }
 
-    // The line of a source.
+    /// The line of a source.
     pub fn source_line(&self) -> Line
         ensures { result ≡ shown self.now.element.now (source (T.WalkingTables.meaning self.now.tables.now) self.now.element.now) }
     {

@@ -6,7 +6,7 @@ ghost use Rattle.network.specs.Lawful.{LawfulElement, LawfulDraft, LawfulCase};
 
 use super::*;
 
-// What is wrong with case data first; the place counts its items from 1.
+/// What is wrong with case data first; the place counts its items from 1.
 pub fn check_case(data: CaseData) -> Result<(), Refusal>
     ensures answered { told result ≡ first_true (case_sentences «data») tt }
     ensures lawful { MatchResult result (λ _. LawfulCase «data») (λ _. LawfulCase «data» → ⊥) }
@@ -26,7 +26,7 @@ pub fn check_case(data: CaseData) -> Result<(), Refusal>
     Ok(())
 }
 
-// The element that a draft describes, or what is wrong with it, by the number that it has or would get.
+/// The element that a draft describes, or what is wrong with it, by the number that it has or would get.
 pub fn check_element(draft: Draft, number: u32) -> Result<Element, Refusal>
     ensures answered { told result ≡ first_true (element_sentences draft number) (element_of draft) }
     ensures lawful { MatchResult result LawfulElement (λ _. LawfulDraft draft → ⊥) }

@@ -2,7 +2,7 @@ ghost use Rattle.network.specs.Ready.{Ready};
 
 use super::Element;
 
-// The elements of a network that is ready to be worked.
+/// The elements of a network that is ready to be worked.
 #[derive(Clone, Copy)]
 pub struct ReadyNetwork<'a> {
     pub elements: &'a [Element],

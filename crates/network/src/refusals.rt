@@ -6,8 +6,8 @@ use std::error::Error;
 use std::fmt;
 
 impl Refusal {
-    // The number that the refusal is listed under, from 1.
-    // A match and no cast: variants that hold a place have no number of their own.
+    /// The number that the refusal is listed under, from 1.
+    /// A match and no cast: variants that hold a place have no number of their own.
     pub fn number(&self) -> u8
         ensures { result ≡ number_of self.now }
     {
@@ -34,8 +34,8 @@ impl Refusal {
         }
     }
 
-    // The element, item, point or record that is wrong; 0 where the refusal names none.
-    // A number and no Option: callers and files are told two numbers of every refusal.
+    /// The element, item, point or record that is wrong; 0 where the refusal names none.
+    /// A number and no Option: callers and files are told two numbers of every refusal.
     pub fn place(&self) -> u32
         ensures { result ≡ place_of self.now }
     {

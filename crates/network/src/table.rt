@@ -25,7 +25,7 @@ impl ElementTable {
         self.elements.len()
     }
 
-    // The elements in order of entry.
+    /// The elements in order of entry.
     pub fn elements(&self) -> &[Element]
         ensures value { result.now ≡ listed self.now }
         ensures fits { length result.now ≤ 128 }
@@ -33,7 +33,7 @@ impl ElementTable {
         self.elements.as_slice()
     }
 
-    // One element more, at the end.
+    /// One element more, at the end.
     pub fn push(&mut self, element: Element)
         requires room { length (listed self.old) < 128 }
         ensures { listed self.new ≡ listed self.old ++ element ∷ [] }
@@ -48,7 +48,7 @@ impl ElementTable {
         self.elements[index] = element;
     }
 
-    // Takes the element out and moves the later ones down.
+    /// Takes the element out and moves the later ones down.
     pub fn remove(&mut self, index: usize)
         requires there { index < length (listed self.old) }
         ensures { listed self.new ≡ remove (listed self.old) index }
@@ -56,7 +56,7 @@ impl ElementTable {
         self.elements.remove(index);
     }
 
-    // All persons, wherever they start.
+    /// All persons, wherever they start.
     pub fn aboard(&self) -> u64
         ensures { result ≡ persons_aboard (listed self.now) }
     {
@@ -64,14 +64,14 @@ impl ElementTable {
         self.elements().iter().map(persons).sum()
     }
 
-    // Whether some element leads to the point.
+    /// Whether some element leads to the point.
     pub fn arrives(&self, point: u8) -> bool
         ensures { result ≡ has_arrivals (listed self.now) point }
     {
         self.elements().iter().any(|element| element.to == point)
     }
 
-    // Whether some element leaves the point.
+    /// Whether some element leaves the point.
     pub fn departs(&self, point: u8) -> bool
         ensures { result ≡ has_departures (listed self.now) point }
     {
@@ -85,7 +85,7 @@ impl ElementTable {
         self.arrives(point) != self.departs(point)
     }
 
-    // Refuses the lowest loose point.
+    /// Refuses the lowest loose point.
     pub fn check_points(&self) -> Result<(), Refusal>
         ensures answered { told result ≡ first_true (point_sentences (listed self.now)) tt }
         ensures tied { MatchResult result (λ _. Tied (listed self.now)) (λ _. Tied (listed self.now) → ⊥) }

@@ -9,15 +9,15 @@ use curves::Column;
 use exact::Ends;
 use walking::WalkingTables;
 
-// A column of a curve at a quantity in billionths, rounded down and up. Past the last row the last row stands.
+/// A column of a curve at a quantity in billionths, rounded down and up. Past the last row the last row stands.
 pub fn read_column<T: WalkingTables>(tables: &T, curve: u8, column: Column, quantity: u64) -> Ends
     ensures { result ≡ ends (rounded (read (values column) (curve_of (T.WalkingTables.meaning tables.now) curve) (whole quantity))) }
 {
     parts::find_part(tables, curve, quantity).read(column, quantity)
 }
 
-// A column of curve 1 between two ends of the density: the smaller reading rounded down, the greater rounded up. Curve 1
-// may rise and fall, so neither end of the density gives the smaller one by itself.
+/// A column of curve 1 between two ends of the density: the smaller reading rounded down, the greater rounded up. Curve 1
+/// may rise and fall, so neither end of the density gives the smaller one by itself.
 pub fn read_across<T: WalkingTables>(tables: &T, column: Column, density: Ends) -> Ends
     ensures { (x : Fraction) → result ≡ ends (across (values column) (T.WalkingTables.meaning tables.now).density (around density x)) }
 {
@@ -29,7 +29,7 @@ pub fn read_across<T: WalkingTables>(tables: &T, column: Column, density: Ends) 
     }
 }
 
-// The speed of curve 2, 3 or 4 between two ends of the specific flow, its lower end at the upper one.
+/// The speed of curve 2, 3 or 4 between two ends of the specific flow, its lower end at the upper one.
 pub fn read_falling<T: WalkingTables>(tables: &T, curve: u8, specific_flow: Ends) -> Ends
     ensures { (x : Fraction) → result ≡ ends (falling (curve_of (T.WalkingTables.meaning tables.now) curve) (around specific_flow x)) }
 {

@@ -9,7 +9,7 @@ use curves::Column;
 use exact::{Ends, Quotient};
 use walking::WalkingTables;
 
-// A corridor in which persons stand at the start; width and length in millimetres.
+/// A corridor in which persons stand at the start; width and length in millimetres.
 #[derive(Clone, Copy, PartialEq, Eq, Debug)]
 pub struct SourceCorridor {
     pub persons: u32,
@@ -20,7 +20,7 @@ pub struct SourceCorridor {
     ghost long: { Within 100 length 100000 },
 }
 
-// What such a corridor gives: density, flows and speed in billionths.
+/// What such a corridor gives: density, flows and speed in billionths.
 #[derive(Clone, Copy, PartialEq, Eq, Debug)]
 pub struct SourceFigures {
     pub density: Ends,
@@ -30,7 +30,7 @@ pub struct SourceFigures {
 }
 
 impl SourceCorridor {
-    // None where a number is out of range.
+    /// None where a number is out of range.
     pub fn new(persons: u32, width: u32, length: u32) -> Option<SourceCorridor>
         ensures { MatchOption result (SourceRanges persons width length → ⊥) (λ c. (c.persons ≡ persons) × (c.width ≡ width) × (c.length ≡ length)) }
     {
@@ -57,7 +57,7 @@ impl SourceCorridor {
         .rounded_both_ways()
     }
 
-    // Specific flow and speed from curve 1 at both ends of the density, and the flow through the width.
+    /// Specific flow and speed from curve 1 at both ends of the density, and the flow through the width.
     pub fn figures<T: WalkingTables>(&self, tables: &T) -> SourceFigures
         ensures density { Gives 1 result.density (density self.now.persons self.now.width self.now.length) }
         ensures specific_flow { Gives 3 result.specific_flow (source_specific_flow (T.WalkingTables.meaning tables.now) self.now.persons self.now.width self.now.length) }
@@ -77,7 +77,7 @@ impl SourceCorridor {
     }
 }
 
-// A flow in persons per second from a specific flow in persons per metre and second.
+/// A flow in persons per second from a specific flow in persons per metre and second.
 pub fn flow_through(width: u32, specific_flow: Ends) -> Ends
     requires lower { specific_flow.lower ≤ 2000000000 }
     requires upper { specific_flow.upper ≤ 2000000000 }

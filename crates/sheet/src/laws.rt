@@ -1,6 +1,6 @@
 ghost use Rattle.sheet.specs.Laws.{SharesAddUp, OutIsIn, EveryoneArrives, PersonsBounded, ArrivalsBounded, GoesOn, CameOn, SomeCross, FlowsEnclose, SpeedsEnclose, FlowsNear, SpeedsNear, SpeedsInRange, FlowsInRange, FlowDurationsNear, TravelsNear, SheetIsWorksheet, OnlyWorksheet};
 
-// What the worksheet of every ready network keeps, under every lawful walking tables; it computes nothing.
+/// What the worksheet of every ready network keeps, under every lawful walking tables; it computes nothing.
 pub fn worksheets_keep_their_laws()
     ensures shares { SharesAddUp }
     ensures out { OutIsIn }

@@ -31,7 +31,7 @@ fn curve_rows(curve: u8) -> &'static [Row]
     }
 }
 
-// The circular's own tables and rules.
+/// The circular's own tables and rules.
 #[derive(Clone, Copy, Debug)]
 pub struct Circular;
 
