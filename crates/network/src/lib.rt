@@ -21,7 +21,7 @@ pub enum Kind {
 // An element as a caller or a file gives it, not checked yet: its kind by number, its clear width and its length in
 // millimetres, the persons who start in it, and the transition points 1 to 64 that it leads from and to.
 // From 0 marks a source, and to 0 is the assembly station.
-#[derive(Clone, Copy)]
+#[derive(Clone, Copy, Debug, PartialEq, Eq)]
 pub struct Draft {
     pub kind: u8,
     pub from: u8,
@@ -44,7 +44,7 @@ pub struct Element {
 
 // What a study is made for: the case 1 to 4, the ship's kind (1 ro-ro, 2 other), its main vertical zones, and the
 // seconds that embarkation and launching take (0 where they are not given).
-#[derive(Clone, Copy, PartialEq, Eq)]
+#[derive(Clone, Copy, Debug, PartialEq, Eq)]
 pub struct CaseData {
     pub case_number: u8,
     pub ship_kind: u8,
