@@ -11,5 +11,5 @@ verdict_text Undecided = codes "undecided"
 
 abbrev pub finding_text : Finding → List ℕ
 finding_text f =
-    decimal f.time.lower ++ (codes " to " ++ (decimal f.time.upper ++ (codes " microseconds, governed by element "
-    ++ (decimal f.governing ++ (codes ": " ++ verdict_text f.verdict)))))
+    (decimal f.time.lower ++ codes " to " ++ decimal f.time.upper)
+    ++ (codes " microseconds, governed by element " ++ (decimal f.governing ++ (codes ": " ++ verdict_text f.verdict)))

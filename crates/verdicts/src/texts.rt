@@ -25,11 +25,9 @@ impl fmt::Display for Finding {
             time,
             governing,
         } = self;
-        let lower = time.lower;
-        let upper = time.upper;
         write!(
             f,
-            "{lower} to {upper} microseconds, governed by element {governing}: {verdict}"
+            "{time} microseconds, governed by element {governing}: {verdict}"
         )
     }
 }
