@@ -1,9 +1,10 @@
 -- Records and their bytes determine each other.
-use Rattle.std.proofs.Common.{◌≡◌, ℕ, zero, suc, ◌+◌, ◌<◌, Bool, true, false, cond, not, eqb, List, [], ◌∷◌, ◌++◌, length, get_or, drop, Some, None, Option, sym, refl, ap, ◌∙◌, subst, arith}
+use Rattle.std.proofs.Common.{◌≡◌, ℕ, zero, suc, ◌+◌, ◌<◌, Bool, true, false, cond, not, eqb, List, [], ◌∷◌, ◌++◌, length, get_or, drop, Some, None, sym, refl, ap, ◌∙◌, subst, arith}
 use Rattle.std.specs.List.{AllByRecursion}
 use Rattle.std.proofs.lemmas.List.FromFn.{fill_by_all}
 use Rattle.std.proofs.lemmas.List.{get_or-drop}
-use Rattle.std.proofs.lemmas.Bool.{eqb-true, eqb-false, and_parts, not-true, cond-true, cond_both}
+use Rattle.std.proofs.lemmas.Option.{cond_some, none-some}
+use Rattle.std.proofs.lemmas.Bool.{eqb-true, and_parts, not-true, cond-true}
 use Rattle.network.specs.Sentences.{outside}
 use Rattle.network.specs.Lawful.{Within}
 use Rattle.network.proofs.Rules.{inside, not_outside}
@@ -48,18 +49,8 @@ small_at [] h k = omega arith
 small_at (b ∷ bs) h zero = h.0
 small_at (b ∷ bs) h (suc k) = small_at bs h.1 k
 
-when_some : (b : Bool) (y x : Record) → when b y ≡ Some x → (b ≡ true) × (y ≡ x)
-when_some true y x e = (refl, cc)
-when_some false y x e = let z : ◌≡◌ {A = ℕ} 0 1 = cc in absurd (omega arith)
-
 numbered : (n : ℕ) → Within 1 n 3 → verdict_number (verdict_of n) ≡ n
-numbered n h =
-    cond_both (eqb n 1) Meets _ (λ v. verdict_number v ≡ n) (λ e. sym (eqb-true n 1 e))
-    (λ one. cond_both (eqb n 2) Exceeds Undecided (λ v. verdict_number v ≡ n) (λ e. sym (eqb-true n 2 e))
-    (λ two. three (eqb-false n 1 one) (eqb-false n 2 two)))
-  where
-    three : (n ≡ 1 → ⊥) → (n ≡ 2 → ⊥) → 3 ≡ n
-    three p q = omega arith
+numbered n h = grind arith
 
 -- the tag, the three bytes and the twelve that make a record
 module _ (tag a b c : ℕ) (rest : List ℕ) (small : (k : ℕ) → get_or rest k 0 < 256) where
@@ -69,7 +60,7 @@ module _ (tag a b c : ℕ) (rest : List ℕ) (small : (k : ℕ) → get_or rest 
   from_opening : (x : Record) → tag ≡ 1 → opening_in a b c rest ≡ Some x → encode x ≡ tag ∷ a ∷ b ∷ c ∷ rest
   unfolding encode
   from_opening x t e =
-      let p = when_some _ _ x e in
+      let p = cond_some _ _ x e in
       let q = and_parts (eqb (length rest) 12) _ p.0 in
       let z = sym (zeros_are 8 2 rest (and_parts (zeros_at 8 2 rest) _ q.1).0) in
       let u = sym t in
@@ -81,7 +72,7 @@ module _ (tag a b c : ℕ) (rest : List ℕ) (small : (k : ℕ) → get_or rest 
   from_element : (x : Record) → tag ≡ 2 → element_in a b c rest ≡ Some x → encode x ≡ tag ∷ a ∷ b ∷ c ∷ rest
   unfolding encode
   from_element x t e =
-      let p = when_some _ _ x e in
+      let p = cond_some _ _ x e in
       let u = sym t in
       let f0 = bytes_of_number 0 4 rest small in
       let f4 = bytes_of_number 4 4 rest small in
@@ -102,7 +93,7 @@ module _ (tag a b c : ℕ) (rest : List ℕ) (small : (k : ℕ) → get_or rest 
   from_lower : (x : Record) → tag ≡ 3 → lower_in a b c rest ≡ Some x → encode x ≡ tag ∷ a ∷ b ∷ c ∷ rest
   unfolding encode
   from_lower x t e =
-      let p = when_some _ _ x e in
+      let p = cond_some _ _ x e in
       let q = and_parts (eqb (length rest) 12) _ p.0 in
       let r = and_parts (eqb b 0) _ q.1 in
       let s = and_parts (eqb c 0) _ r.1 in
@@ -112,7 +103,7 @@ module _ (tag a b c : ℕ) (rest : List ℕ) (small : (k : ℕ) → get_or rest 
   from_upper : (x : Record) → tag ≡ 4 → upper_in a b c rest ≡ Some x → encode x ≡ tag ∷ a ∷ b ∷ c ∷ rest
   unfolding encode
   from_upper x t e =
-      let p = when_some _ _ x e in
+      let p = cond_some _ _ x e in
       let q = and_parts (eqb (length rest) 12) _ p.0 in
       let r = and_parts (eqb b 0) _ q.1 in
       let s = and_parts (eqb c 0) (zeros_at 0 4 rest) r.1 in
@@ -125,31 +116,18 @@ module _ (tag a b c : ℕ) (rest : List ℕ) (small : (k : ℕ) → get_or rest 
   by_tag x false true t3 t4 p q r s e = from_element x (eqb-true tag 2 q) e
   by_tag x false false true t4 p q r s e = from_lower x (eqb-true tag 3 r) e
   by_tag x false false false true p q r s e = from_upper x (eqb-true tag 4 s) e
-  by_tag x false false false false p q r s e = let z : ◌≡◌ {A = ℕ} 0 1 = cc in absurd (omega arith)
+  by_tag x false false false false p q r s e = absurd (none-some x e)
 
 -- four bytes alone say nothing
-pub none_of_four : (tag a b c : ℕ) → decode_by tag a b c [] ≡ None
-none_of_four tag a b c = by (eqb tag 1) (eqb tag 2) (eqb tag 3) (eqb tag 4)
-  where
-    by : (t1 t2 t3 t4 : Bool) → ◌≡◌ {A = Option Record} (cond t1 None (cond t2 None (cond t3 None (cond t4 None None)))) None
-    by true t2 t3 t4 = refl
-    by false true t3 t4 = refl
-    by false false true t4 = refl
-    by false false false true = refl
-    by false false false false = refl
-
-some_is_not_none : (x : Record) → None ≡ Some x → ⊥
-some_is_not_none x e = let z : ◌≡◌ {A = ℕ} 0 1 = cc in omega arith
-
-too_short : (tag a b c : ℕ) (x : Record) → decode_by tag a b c [] ≡ Some x → ⊥
-too_short tag a b c x e = some_is_not_none x (sym (none_of_four tag a b c) ∙ e)
+none_of_four : (tag a b c : ℕ) (x : Record) → decode_by tag a b c [] ≡ Some x → ⊥
+none_of_four tag a b c x e = grind arith
 
 long : (bs : List ℕ) (x : Record) → decode bs ≡ Some x → get_or bs 0 0 ∷ get_or bs 1 0 ∷ get_or bs 2 0 ∷ get_or bs 3 0 ∷ drop 4 bs ≡ bs
 unfolding decode
-long [] x e = absurd (too_short 0 0 0 0 x e)
-long (t ∷ []) x e = absurd (too_short t 0 0 0 x e)
-long (t ∷ a ∷ []) x e = absurd (too_short t a 0 0 x e)
-long (t ∷ a ∷ b ∷ []) x e = absurd (too_short t a b 0 x e)
+long [] x e = absurd (none_of_four 0 0 0 0 x e)
+long (t ∷ []) x e = absurd (none_of_four t 0 0 0 x e)
+long (t ∷ a ∷ []) x e = absurd (none_of_four t a 0 0 x e)
+long (t ∷ a ∷ b ∷ []) x e = absurd (none_of_four t a b 0 x e)
 long (t ∷ a ∷ b ∷ c ∷ rest) x e = refl
 
 pub encoding_undoes_decoding : EncodingUndoesDecoding

@@ -6,7 +6,7 @@ use network::{CaseData, Draft};
 use verdicts::Verdict;
 
 // What begins a study in a file: its case data, its number, and how many elements follow.
-#[derive(Clone, Copy)]
+#[derive(Clone, Copy, Debug, PartialEq, Eq)]
 pub struct Opening {
     pub case_data: CaseData,
     pub number: u32,
@@ -14,7 +14,7 @@ pub struct Opening {
 }
 
 // A record of a file. A study is an opening, its elements, and both ends of its finding.
-#[derive(Clone, Copy)]
+#[derive(Clone, Copy, Debug, PartialEq, Eq)]
 pub enum Record {
     Opening(Opening),
     Element(Draft),

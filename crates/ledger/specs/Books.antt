@@ -23,7 +23,6 @@ pub record Kept (b : Book) : Type 0 where
 unfoldable pub finding : Book → CaseData → List Element → Finding
 finding b c es = record {
   verdict = verdict b.rules c (lower_end es (sheet b.tables es)) (upper_end es (sheet b.tables es));
-  lower = lower_end es (sheet b.tables es);
-  upper = upper_end es (sheet b.tables es);
+  time = record { lower = lower_end es (sheet b.tables es); upper = upper_end es (sheet b.tables es) };
   governing = governing es (sheet b.tables es);
 }

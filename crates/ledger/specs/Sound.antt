@@ -19,17 +19,17 @@ use Rattle.ledger.specs.Runs.{Event, Run}
 -- a finding, of a network and its case data, by a rule book
 pub record Sound (b : Book) (c : CaseData) (es : List Element) (f : Finding) : Type 0 where
   -- no used route's exact time is above the upper end, and one's is at least the lower end
-  pub none_above : (r : List ℕ) → Used es (sheet b.tables es) r → (time es (sheet b.tables es) r).exact ≤ᶠ whole f.upper
-  pub one_reaches : (r : List ℕ) × Used es (sheet b.tables es) r × (whole f.lower ≤ᶠ (time es (sheet b.tables es) r).exact)
+  pub none_above : (r : List ℕ) → Used es (sheet b.tables es) r → (time es (sheet b.tables es) r).exact ≤ᶠ whole f.time.upper
+  pub one_reaches : (r : List ℕ) × Used es (sheet b.tables es) r × (whole f.time.lower ≤ᶠ (time es (sheet b.tables es) r).exact)
   -- the ends are a thousandth of the lower and a millisecond apart at most
-  pub close_together : 1000 * f.upper ≤ 1001 * f.lower + 1000000
+  pub close_together : 1000 * f.time.upper ≤ 1001 * f.time.lower + 1000000
   -- there is a slowest time
   pub slowest : (t : Fraction) × Slowest es (sheet b.tables es) t
   -- and each verdict is true of it: it keeps the limit, it does not, or it does less the margin and does not with it
   pub meets : (t : Fraction) → Slowest es (sheet b.tables es) t → f.verdict ≡ Meets → Keeps b.rules c t
   pub exceeds : (t : Fraction) → Slowest es (sheet b.tables es) t → f.verdict ≡ Exceeds → Keeps b.rules c t → ⊥
   pub undecided : (t : Fraction) → Slowest es (sheet b.tables es) t → f.verdict ≡ Undecided
-      → Keeps b.rules c (less t (margin f.lower)) × (Keeps b.rules c (plus t (margin f.lower)) → ⊥)
+      → Keeps b.rules c (less t (margin f.time.lower)) × (Keeps b.rules c (plus t (margin f.time.lower)) → ⊥)
   -- the persons who arrive at the assembly station are those aboard
   pub everyone : sum_where (length es) (comes es 0) (λ i. (at (sheet b.tables es) i).persons) ≡ aboard es
 

@@ -1,13 +1,7 @@
 -- The bytes of a number as to_be_bytes gives them.
-use Rattle.std.proofs.Common.{◌≡◌, ℕ, ◌/◌, ◌%◌, [], ◌∷◌, refl}
+use Rattle.std.proofs.Common.{◌≡◌, ℕ, ◌/◌, ◌%◌, [], ◌∷◌}
 use native.Mathlib.Nat.{div-div-eq-div-mul}
 use Rattle.layout.specs.Numbers.{bytes_of}
-
-pub two_bytes : (n : ℕ) → (n / 256 % 256) ∷ (n % 256) ∷ [] ≡ bytes_of 2 n
-two_bytes n = refl
-
-pub four_bytes : (n : ℕ) → (n / 16777216 % 256) ∷ (n / 65536 % 256) ∷ (n / 256 % 256) ∷ (n % 256) ∷ [] ≡ bytes_of 4 n
-four_bytes n = simp div-div-eq-div-mul
 
 pub eight_bytes : (n : ℕ)
     → (n / 72057594037927936 % 256) ∷ (n / 281474976710656 % 256) ∷ (n / 1099511627776 % 256) ∷ (n / 4294967296 % 256)

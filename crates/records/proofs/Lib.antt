@@ -1,2 +1,1 @@
 mod BigEndian
-mod Tags

@@ -8,6 +8,8 @@ use network::{CaseData, Draft};
 use verdicts::Verdict;
 
 // What the bytes of a record say; none where they are not sixteen or break the layout.
+// A function and no `TryFrom`: records stand with their laws in a crate below, which no change here proves again.
+#[tactic(auto, unfolding(layout::specs::Records::decode))]
 pub fn decode(bytes: &[u8]) -> Option<Record>
     ensures { result ≡ decode_of bytes.now }
 {
@@ -16,8 +18,8 @@ pub fn decode(bytes: &[u8]) -> Option<Record>
             decode_opening(*case_number, *ship_kind, *zones, rest)
         }
         [2, kind, from, to, rest @ ..] => decode_element(*kind, *from, *to, rest),
-        [3, verdict, b, c, rest @ ..] => decode_lower(*verdict, *b, *c, rest),
-        [4, governing, b, c, rest @ ..] => decode_upper(*governing, *b, *c, rest),
+        [3, verdict, 0, 0, rest @ ..] => decode_lower(*verdict, rest),
+        [4, governing, 0, 0, rest @ ..] => decode_upper(*governing, rest),
         _ => None,
     }
 }
@@ -29,7 +31,7 @@ fn decode_opening(case_number: u8, ship_kind: u8, zones: u8, rest: &[u8]) -> Opt
         return None;
     };
     let count = u16::from_be_bytes([*c0, *c1]);
-    if count < 1 || count > 128 {
+    if !(1..=128).contains(&count) {
         return None;
     }
     let case_data = CaseData {
@@ -61,7 +63,7 @@ fn decode_element(kind: u8, from: u8, to: u8, rest: &[u8]) -> Option<Record>
     }))
 }
 
-// The time in the last eight of twelve bytes, whose first four are 0.
+// The time in the last eight of twelve bytes; none unless the first four are 0.
 fn decode_time(rest: &[u8]) -> Option<u64>
     ensures { result ≡ (if nat_eq (length rest.now) 12 && zeros_at 0 4 rest.now then Some (number_at 4 8 rest.now) else None) }
 {
@@ -71,21 +73,15 @@ fn decode_time(rest: &[u8]) -> Option<u64>
     Some(u64::from_be_bytes([*t0, *t1, *t2, *t3, *t4, *t5, *t6, *t7]))
 }
 
-fn decode_lower(verdict: u8, b: u8, c: u8, rest: &[u8]) -> Option<Record>
-    ensures { result ≡ lower_in verdict b c rest.now }
+fn decode_lower(verdict: u8, rest: &[u8]) -> Option<Record>
+    ensures { result ≡ lower_in verdict 0 0 rest.now }
 {
-    if b != 0 || c != 0 {
-        return None;
-    }
-    let verdict = Verdict::from_number(verdict)?;
+    let verdict = Verdict::try_from(verdict).ok()?;
     Some(Record::Lower(verdict, decode_time(rest)?))
 }
 
-fn decode_upper(governing: u8, b: u8, c: u8, rest: &[u8]) -> Option<Record>
-    ensures { result ≡ upper_in governing b c rest.now }
+fn decode_upper(governing: u8, rest: &[u8]) -> Option<Record>
+    ensures { result ≡ upper_in governing 0 0 rest.now }
 {
-    if b != 0 || c != 0 {
-        return None;
-    }
     Some(Record::Upper(governing, decode_time(rest)?))
 }

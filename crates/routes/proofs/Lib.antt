@@ -1,1 +1,2 @@
-pub mod Shown
+mod Shown
+mod Standing

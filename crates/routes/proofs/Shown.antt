@@ -2,7 +2,7 @@
 use Rattle.std.proofs.Common.{◌≡◌, ℕ, ◌+◌, ◌-◌, ◌<◌, ◌≤◌, List, length, get_or, take, sym, ap, ◌∙◌, subst, ⊎_elim, arith}
 use mathlib.Core.Path.{fun_ext}
 use Rattle.std.proofs.lemmas.List.FromFn.{length-map-range_with_len, get_or-map-range_with_len}
-use Rattle.std.proofs.lemmas.List.{length-take, get_or_past}
+use Rattle.std.proofs.lemmas.List.{get_or_past}
 use Rattle.std.proofs.lemmas.Bool.{cases_lt}
 use Rattle.walking.specs.Curves.{Tables}
 use Rattle.network.specs.declared.Element.{Element}
@@ -66,20 +66,13 @@ module _ (e : End) (es : List Element) (ls : List WorkedLine) (held : List Line)
 -- ---- the first lines held show the worksheet
 
 module _ (t : Tables) (es : List Element) (held : List Line) (w : WorkedOut t es held) where
-  pub long_enough : length es ≤ length held
-  long_enough = omega (arith, ap length w.same, length-take (length es) held, length_lines t es)
+  pub sized : length es ≡ length (take (length es) held)
+  sized = sym (ap length w.same ∙ length_lines t es)
 
-  module _ (k : ℕ) (all : k ≡ length es) where
-    first_lines : take k held ≡ lines t es
-    first_lines = ap (λ (j : ℕ). take j held) all ∙ w.same
+  pub shows : Shows es (sheet t es) (take (length es) held)
+  shows i =
+      ap (λ (ls : List Line). get_or ls i no_line) w.same
+      ∙ ⊎_elim (line_at t es i) (line_past t es w.facts.size i) (cases_lt i (length es))
 
-    pub sized : length es ≡ length (take k held)
-    sized = sym (ap length first_lines ∙ length_lines t es)
-
-    pub shows : Shows es (sheet t es) (take k held)
-    shows i =
-        ap (λ (ls : List Line). get_or ls i no_line) first_lines
-        ∙ ⊎_elim (line_at t es i) (line_past t es w.facts.size i) (cases_lt i (length es))
-
-    pub walkable : (e : End) → Walkable (net_of e es (take k held))
-    walkable e = subst Walkable (sym (same_net e es (sheet t es) (take k held) shows)) (worked_walkable es (sheet t es) w.ready w.facts e)
+  pub walkable : (e : End) → Walkable (net_of e es (take (length es) held))
+  walkable e = subst Walkable (sym (same_net e es (sheet t es) (take (length es) held) shows)) (worked_walkable es (sheet t es) w.ready w.facts e)

@@ -1,1 +1,2 @@
 pub mod Worksheets
+pub mod Timed

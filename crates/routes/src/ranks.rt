@@ -1,17 +1,19 @@
 ghost use Rattle.std.specs.Prelude.{◌≡◌, ◌<◌, ◌≤◌, length};
 ghost use Rattle.ways.specs.Ends.{end_of};
 ghost use Rattle.ways.specs.declared.Way.TheVariants.{Back, Onward};
-ghost use Rattle.ways.specs.Walks.{net_of, rank, ranks, Reaches, FirstMost, Low, Walkable};
+ghost use Rattle.ways.specs.Walks.{rank, ranks, Reaches, FirstMost, Low};
+ghost use Rattle.routes.specs.Timed.{timed_net};
 
 use super::passes::Pass;
+use super::timed::TimedNetwork;
 use network::Element;
 use sheet::Line;
-use ways::{End, Way};
+use ways::Way;
 
-// The longest walks from all points by one end of the travels, back to a source and onward to the station.
+// The longest walks from all points of a network, back to a source and onward to the station.
 #[derive(Drop)]
-pub struct LongestWalks {
-    pub end: End,
+pub struct LongestWalks<'a> {
+    pub network: TimedNetwork<'a>,
     pub back: [u64; 65],
     pub onward: [u64; 65],
     ghost low: { Low back × Low onward },
@@ -24,57 +26,56 @@ pub struct Ranked {
     pub rank: u64,
 }
 
-impl LongestWalks {
-    pub fn find(elements: &[Element], lines: &[Line], end: End) -> LongestWalks
-        requires sized { length elements.now ≡ length lines.now }
-        requires walkable { Walkable (net_of end elements.now lines.now) }
-        ensures end { result.end ≡ end }
-        ensures back { Reaches Back (net_of end elements.now lines.now) result.back }
-        ensures onward { Reaches Onward (net_of end elements.now lines.now) result.onward }
+impl<'a> LongestWalks<'a> {
+    pub fn find(network: TimedNetwork<'a>) -> LongestWalks<'a>
+        ensures network { result.network ≡ network.entry }
+        ensures back { Reaches Back (timed_net network.entry) result.back }
+        ensures onward { Reaches Onward (timed_net network.entry) result.onward }
     {
         let back = Pass {
+            network,
             way: Way::Back,
-            end,
         };
         let onward = Pass {
+            network,
             way: Way::Onward,
-            end,
         };
         LongestWalks {
-            end,
-            back: back.longest_walks(elements, lines),
-            onward: onward.longest_walks(elements, lines),
+            network,
+            back: back.longest_walks(),
+            onward: onward.longest_walks(),
         }
     }
 
     // 0 where nobody passes the element; else one more than its flow duration with the longest walks back and onward
-    // from it.
+    // from it. A number and no Option: the definitions order the elements by it.
     fn rank_of(&self, element: Element, line: Line) -> u64
         requires starts { element.from ≤ 64 }
         requires ends { element.to ≤ 64 }
-        requires duration { end_of self.now.end line.flow_duration ≤ 1000000000000 }
-        requires travel { end_of self.now.end line.travel ≤ 100000000000000000 }
-        ensures { result ≡ rank self.now.back self.now.onward line.persons (end_of self.now.end line.flow_duration) (end_of self.now.end line.travel) element.from element.to }
+        requires duration { end_of self.now.network.end line.flow_duration ≤ 1000000000000 }
+        requires travel { end_of self.now.network.end line.travel ≤ 100000000000000000 }
+        ensures { result ≡ rank self.now.back self.now.onward line.persons (end_of self.now.network.end line.flow_duration) (end_of self.now.network.end line.travel) element.from element.to }
     {
         if line.persons == 0 {
             return 0;
         }
+        let end = self.network.end;
         let walked = self.back[element.from as usize]
-            + self.end.of(line.travel)
+            + end.of(line.travel)
             + self.onward[element.to as usize];
-        1 + self.end.of(line.flow_duration) + walked
+        1 + end.of(line.flow_duration) + walked
     }
 
     // The first element of the greatest rank.
-    pub fn first_most(&self, elements: &[Element], lines: &[Line]) -> Ranked
-        requires sized { length elements.now ≡ length lines.now }
-        requires walkable { Walkable (net_of self.now.end elements.now lines.now) }
-        ensures most { FirstMost (ranks (net_of self.now.end elements.now lines.now) self.now.back self.now.onward) (length elements.now) result.index result.rank }
+    #[tactic(auto, using(crate::proofs::Standing::walkable_stands))]
+    pub fn first_most(&self) -> Ranked
+        ensures most { FirstMost (ranks (timed_net self.now.network) self.now.back self.now.onward) (length self.now.network.elements.now) result.index result.rank }
         ensures some { 0 < result.rank }
     {
         let mut most = Ranked { index: 0, rank: 0 };
-        for (index, element) in elements.iter().enumerate() {
-            let rank = self.rank_of(*element, lines[index]);
+        let lines = self.network.lines;
+        for (index, (element, line)) in self.network.elements.iter().zip(lines).enumerate() {
+            let rank = self.rank_of(*element, *line);
             if rank > most.rank {
                 most = Ranked { index, rank };
             }

@@ -124,11 +124,11 @@ module _ (s : Study) (closed : s.stage ≡ Closed) where
 -- a finding, from its parts
 pub found_is : (b : Book) (c : CaseData) (o : Option CaseData) (es : List Element) (lo up gov : ℕ) (v : Verdict) → o ≡ Some c
     → lo ≡ lower_end es (sheet b.tables es) → up ≡ upper_end es (sheet b.tables es) → gov ≡ governing es (sheet b.tables es) → v ≡ verdict b.rules c lo up
-    → ◌≡◌ {A = Finding} (record { verdict = v; lower = lo; upper = up; governing = gov }) (finding b (case_or o) es)
+    → ◌≡◌ {A = Finding} (record { verdict = v; time = record { lower = lo; upper = up }; governing = gov }) (finding b (case_or o) es)
 unfolding finding
 found_is b c o es lo up gov v eo el eu eg ev =
     let w = ev ∙ ap (λ x. verdict b.rules c x up) el ∙ ap (λ y. verdict b.rules c (lower_end es (sheet b.tables es)) y) eu ∙ ap (λ k. verdict b.rules k (lower_end es (sheet b.tables es)) (upper_end es (sheet b.tables es))) (sym (ap case_or eo)) in
-    λ i. record { verdict = w i; lower = el i; upper = eu i; governing = eg i }
+    λ i. record { verdict = w i; time = record { lower = el i; upper = eu i }; governing = eg i }
 
 -- an assessment leaves the study as it is
 assess_stays : (l : Ledger) (b : Book) (k : ℕ) → l ≡ next l (assessing b k)

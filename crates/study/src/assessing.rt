@@ -34,9 +34,8 @@ impl Study {
         .work_out(lines)?;
         let ends = find_ends(elements, lines);
         Ok(Finding {
-            verdict: judge(book, case_data, ends.lower, ends.upper),
-            lower: ends.lower,
-            upper: ends.upper,
+            verdict: judge(book, case_data, ends.time),
+            time: ends.time,
             governing: ends.governing,
         })
     }

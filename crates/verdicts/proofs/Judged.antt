@@ -1,5 +1,5 @@
 -- What each verdict says of an exact time between the ends.
-use Rattle.std.proofs.Common.{◌≡◌, ℕ, ◌+◌, ◌-◌, ◌*◌, ◌<◌, ◌≤◌, Bool, true, false, cond, ◌||◌, ltb, leb, refl, ⊎_elim, mul-le-mul_right, mul-le-mul_left, arith}
+use Rattle.std.proofs.Common.{◌≡◌, ℕ, ◌+◌, ◌-◌, ◌*◌, ◌<◌, ◌≤◌, Bool, true, false, cond, ◌||◌, ltb, leb, ⊎_elim, mul-le-mul_right, mul-le-mul_left, arith}
 use Rattle.std.proofs.lemmas.Bool.{leb-true, leb-false, ltb-true, ltb-false, or_cases, or_parts}
 use Rattle.exact.specs.Fractions.{Fraction, plus}
 use Rattle.walking.specs.Rules.{Rules}
@@ -13,19 +13,13 @@ abbrev judged : Bool → Bool → Verdict
 judged x y = cond x Exceeds (cond y Meets Undecided)
 
 is_meets : (x y : Bool) → judged x y ≡ Meets → (x ≡ false) × (y ≡ true)
-is_meets true y e = absurd (let z : ◌≡◌ {A = ℕ} 0 1 = cc in omega arith)
-is_meets false true e = (refl, refl)
-is_meets false false e = absurd (let z : ◌≡◌ {A = ℕ} 0 1 = cc in omega arith)
+is_meets x y e = grind arith
 
 is_exceeds : (x y : Bool) → judged x y ≡ Exceeds → x ≡ true
-is_exceeds true y e = refl
-is_exceeds false true e = absurd (let z : ◌≡◌ {A = ℕ} 0 1 = cc in omega arith)
-is_exceeds false false e = absurd (let z : ◌≡◌ {A = ℕ} 0 1 = cc in omega arith)
+is_exceeds x y e = grind arith
 
 is_undecided : (x y : Bool) → judged x y ≡ Undecided → (x ≡ false) × (y ≡ false)
-is_undecided true y e = absurd (let z : ◌≡◌ {A = ℕ} 0 1 = cc in omega arith)
-is_undecided false true e = absurd (let z : ◌≡◌ {A = ℕ} 0 1 = cc in omega arith)
-is_undecided false false e = (refl, refl)
+is_undecided x y e = grind arith
 
 -- ---- over plain numbers: f the fixed part, s the slope, b the bar, n / d the time, l and u its ends
 

@@ -1,2 +1,4 @@
 pub mod Verdicts
+pub mod Numbers
+pub mod Texts
 pub mod Laws

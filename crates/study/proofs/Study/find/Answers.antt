@@ -66,7 +66,7 @@ returns g c =
     let none = accepted_thick t xs c.in_ok-work_out.ensures.answered in
     let w = worked_facts t xs before c.work_out.new.sheet (g.met.B.WalkingTables.lawful c.args.book.now) ready none c.in_ok-work_out.ensures.written in
     let r = c.find_ends-ends.result in
-    let f = found_is b c.in-Some.case_data s.case xs r.lower r.upper r.governing c.judge.result c.in-Some.is (c.find_ends-ends.ensures.lower t w) (c.find_ends-ends.ensures.upper t w) (c.find_ends-ends.ensures.governing t w) c.judge.ensures in
+    let f = found_is b c.in-Some.case_data s.case xs r.time.lower r.time.upper r.governing c.judge.result c.in-Some.is (c.find_ends-ends.ensures.lower t w) (c.find_ends-ends.ensures.upper t w) (c.find_ends-ends.ensures.governing t w) c.judge.ensures in
     let e = worked_reply l c.requires.closed b before room (accepted tt) (c.in_ok-work_out.ensures.answered ∙ ap (λ x. first_true (thin_sentences t x) tt) same) in
     let told_so = ap (λ k. accepted (found k)) (f ∙ ap (λ x. finding b (case_or s.case) x) same) ∙ e in
     record {

@@ -1,6 +1,7 @@
-use Rattle.std.proofs.Common.{◌≡◌}
-use Rattle.ways.specs.Walks.{net_of, gains, most_below}
+use Rattle.std.proofs.Common.{◌≡◌, length}
+use Rattle.ways.specs.Walks.{gains, most_below}
+use Rattle.routes.specs.Timed.{timed_net}
 use Rattle.routes.proofs.passes.Pass.longest_at.Given as goal
 
-abbrev pub invariant-loop-i : goal.invariant-loop-i
-invariant-loop-i l = l.longest ≡ most_below (gains l.self.way (net_of l.self.end l.elements l.lines) l.reach l.p) l.i
+abbrev pub invariant-loop-element : goal.invariant-loop-element
+invariant-loop-element l = l.longest ≡ most_below (gains l.self.way (timed_net l.self.network) l.reach l.p) (length l.yielded)
