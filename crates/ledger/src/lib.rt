@@ -4,7 +4,7 @@ mod laws;
 
 pub use laws::every_run_is_sound;
 
-// Whether a study's elements and case data may still be altered.
+/// Whether a study's elements and case data may still be altered.
 #[derive(Clone, Copy, PartialEq, Eq, Debug)]
 pub enum Stage {
     Open,

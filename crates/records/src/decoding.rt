@@ -7,7 +7,7 @@ use layout::{Opening, Record};
 use network::{CaseData, Draft};
 use verdicts::Verdict;
 
-// What the bytes of a record say; none where they are not sixteen or break the layout.
+/// What the bytes of a record say; none where they are not sixteen or break the layout.
 // A function and no `TryFrom`: records stand with their laws in a crate below, which no change here proves again.
 #[tactic(auto, unfolding(layout::specs::Records::decode))]
 pub fn decode(bytes: &[u8]) -> Option<Record>

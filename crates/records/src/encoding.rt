@@ -6,7 +6,7 @@ ghost use Rattle.layout.specs.Records.{encode as encode_of};
 use layout::{Opening, Record};
 use network::Draft;
 
-// The sixteen bytes of a record.
+/// The sixteen bytes of a record.
 // A function and no `From`: records stand with their laws in a crate below, which no change here proves again.
 #[tactic(auto, unfolding(layout::specs::Records::encode))]
 pub fn encode(record: Record) -> [u8; 16]

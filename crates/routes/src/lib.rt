@@ -16,8 +16,8 @@ mod timed;
 use ranks::{LongestWalks, Ranked};
 use timed::TimedNetwork;
 
-// The time of a network: the greatest lower and the greatest upper time of a used route, in microseconds, and the
-// number of the element that governs, from 1.
+/// The time of a network: the greatest lower and the greatest upper time of a used route, in microseconds, and the
+/// number of the element that governs, from 1.
 #[derive(Clone, Copy, Debug, PartialEq, Eq)]
 pub struct RouteEnds {
     pub time: Ends,
@@ -39,7 +39,7 @@ fn find_governing(elements: &[Element], lines: &[Line], end: End) -> Ranked
     LongestWalks::find(network).first_most()
 }
 
-// Both ends of a network's time, and the element that governs, by the lines of its worksheet.
+/// Both ends of a network's time, and the element that governs, by the lines of its worksheet.
 pub fn find_ends(elements: &[Element], lines: &[Line]) -> RouteEnds
     requires worked { SomeWorkedOut elements.now lines.now }
     ensures lower { OfWorksheet elements.now lines.now (λ ls. result.time.lower ≡ lower_end elements.now ls) }

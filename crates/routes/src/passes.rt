@@ -8,7 +8,7 @@ use network::Element;
 use sheet::Line;
 use ways::Way;
 
-// A pass over all points of a network that finds the longest walks from them, and which way they go.
+/// A pass over all points of a network that finds the longest walks from them, and which way they go.
 #[derive(Clone, Copy)]
 pub struct Pass<'a> {
     pub network: TimedNetwork<'a>,
@@ -44,8 +44,8 @@ impl<'a> Pass<'a> {
         longest
     }
 
-    // The longest walks from all points, each found from those of the points that it leads to.
-    // A table indexed by the point, 0 to 64: it needs no heap.
+    /// The longest walks from all points, each found from those of the points that it leads to.
+    /// A table indexed by the point, 0 to 64: it needs no heap.
     pub fn longest_walks(&self) -> [u64; 65]
         ensures longest { Reaches self.now.way (timed_net self.now.network) result }
         ensures low { Low result }

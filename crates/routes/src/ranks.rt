@@ -10,7 +10,7 @@ use network::Element;
 use sheet::Line;
 use ways::Way;
 
-// The longest walks from all points of a network, back to a source and onward to the station.
+/// The longest walks from all points of a network, back to a source and onward to the station.
 #[derive(Drop)]
 pub struct LongestWalks<'a> {
     pub network: TimedNetwork<'a>,
@@ -19,7 +19,7 @@ pub struct LongestWalks<'a> {
     ghost low: { Low back × Low onward },
 }
 
-// The first element of the greatest rank.
+/// The first element of the greatest rank.
 #[derive(Clone, Copy)]
 pub struct Ranked {
     pub index: usize,
@@ -66,7 +66,7 @@ impl<'a> LongestWalks<'a> {
         1 + end.of(line.flow_duration) + walked
     }
 
-    // The first element of the greatest rank.
+    /// The first element of the greatest rank.
     #[tactic(auto, using(crate::proofs::Standing::walkable_stands))]
     pub fn first_most(&self) -> Ranked
         ensures most { FirstMost (ranks (timed_net self.now.network) self.now.back self.now.onward) (length self.now.network.elements.now) result.index result.rank }

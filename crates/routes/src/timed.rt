@@ -5,7 +5,7 @@ use network::Element;
 use sheet::Line;
 use ways::End;
 
-// A network as it is walked: its elements, the line of each, and which end of their times is added up.
+/// A network as it is walked: its elements, the line of each, and which end of their times is added up.
 #[derive(Clone, Copy)]
 pub struct TimedNetwork<'a> {
     pub elements: &'a [Element],

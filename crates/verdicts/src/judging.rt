@@ -56,7 +56,7 @@ impl<'a, B: RuleBook> Judging<'a, B> {
     }
 }
 
-// The verdict on a time, by both its ends in microseconds.
+/// The verdict on a time, by both its ends in microseconds.
 pub fn judge<B: RuleBook>(book: &B, case_data: CaseData, time: Ends) -> Verdict
     ensures { result ≡ verdict (B.RuleBook.rules book.now) case_data time.lower time.upper }
 {

@@ -10,7 +10,7 @@ mod texts;
 
 pub use judging::judge;
 
-// Whether the slowest escape route's time keeps the limit.
+/// Whether the slowest escape route's time keeps the limit.
 #[derive(Clone, Copy, Debug, PartialEq, Eq)]
 pub enum Verdict {
     Meets,
@@ -18,12 +18,12 @@ pub enum Verdict {
     Undecided,
 }
 
-// A number that no verdict has.
+/// A number that no verdict has.
 #[derive(Clone, Copy, Debug, PartialEq, Eq)]
 pub struct UnknownVerdict(pub u8);
 
-// What a study is found to be: the verdict, both ends of the slowest escape route's time in microseconds, and the number of
-// the element that governs it.
+/// What a study is found to be: the verdict, both ends of the slowest escape route's time in microseconds, and the number of
+/// the element that governs it.
 #[derive(Clone, Copy, Debug, PartialEq, Eq)]
 pub struct Finding {
     pub verdict: Verdict,
@@ -31,7 +31,7 @@ pub struct Finding {
     pub governing: u8,
 }
 
-// What each verdict says of every exact time between the two ends; it computes nothing.
+/// What each verdict says of every exact time between the two ends; it computes nothing.
 pub fn verdicts_are_true()
     ensures meets { MeetsIsTrue }
     ensures exceeds { ExceedsIsTrue }

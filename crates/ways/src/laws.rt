@@ -1,6 +1,6 @@
 ghost use Rattle.ways.specs.Laws.{PassedIsOnARoute, RouteExists, ListedIsUsed, EndsAgree, GoverningAgrees, GoverningMakesTheEnd, TimeEncloses, NoneAbove, OneReaches, SlowestExists, SlowestBetween, EndsNear, EndsClose, SomeWorksheet};
 
-// The laws of used routes, which hold in every ready network whose worksheet keeps the facts; it computes nothing.
+/// The laws of used routes, which hold in every ready network whose worksheet keeps the facts; it computes nothing.
 pub fn routes_keep_their_laws()
     ensures passed { PassedIsOnARoute }
     ensures exists { RouteExists }

@@ -5,14 +5,14 @@ mod reads;
 
 pub use laws::routes_keep_their_laws;
 
-// Which end of a worked quantity is read.
+/// Which end of a worked quantity is read.
 #[derive(Clone, Copy, PartialEq, Eq, Debug)]
 pub enum End {
     Lower,
     Upper,
 }
 
-// Which way a walk from a point goes: back to a source, or onward to the assembly station.
+/// Which way a walk from a point goes: back to a source, or onward to the assembly station.
 #[derive(Clone, Copy, PartialEq, Eq, Debug)]
 pub enum Way {
     Back,

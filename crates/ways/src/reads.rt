@@ -7,7 +7,7 @@ use exact::Ends;
 use network::Element;
 
 impl End {
-    // That end of a quantity.
+    /// That end of a quantity.
     pub fn of(self, ends: Ends) -> u64
         ensures { result ≡ end_of self ends }
     {
@@ -19,7 +19,7 @@ impl End {
 }
 
 impl Way {
-    // The point at which a walk enters an element.
+    /// The point at which a walk enters an element.
     pub fn near(self, element: Element) -> u8
         ensures { result ≡ near_point self element.from element.to }
     {
@@ -29,7 +29,7 @@ impl Way {
         }
     }
 
-    // The point at which it leaves it.
+    /// The point at which it leaves it.
     pub fn far(self, element: Element) -> u8
         ensures { result ≡ far_point self element.from element.to }
     {
@@ -39,7 +39,7 @@ impl Way {
         }
     }
 
-    // The point that a pass over the points 1 to 64 comes to as the k-th: each after those that it leads to.
+    /// The point that a pass over the points 1 to 64 comes to as the k-th: each after those that it leads to.
     pub fn point(self, k: u8) -> u8
         requires { k ≤ 64 }
         ensures { result ≡ point_at self k }
