@@ -45,7 +45,7 @@ impl<'a> Pass<'a> {
     }
 
     /// The longest walks from all points, each found from those of the points that it leads to.
-    /// A table indexed by the point, 0 to 64: it needs no heap.
+    // A table indexed by the point, 0 to 64: it needs no heap.
     pub fn longest_walks(&self) -> [u64; 65]
         ensures longest { Reaches self.now.way (timed_net self.now.network) result }
         ensures low { Low result }
