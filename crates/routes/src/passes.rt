@@ -32,6 +32,7 @@ impl<'a> Pass<'a> {
     }
 
     // The longest walk from p by any element.
+    // A loop and no `map` with `max`: the proof did not close that each pair which the closure is given keeps the bounds.
     #[tactic(auto, using(crate::proofs::Standing::walkable_stands))]
     fn longest_at(&self, reach: &[u64; 65], p: u8) -> u64
         requires low { Low reach.now }
