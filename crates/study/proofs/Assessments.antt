@@ -116,10 +116,7 @@ module _ (s : Study) (closed : s.stage ≡ Closed) where
   ready_now xs e = subst Ready (sym e) standing.ready
 
   pub case_now : s.case ≡ None → ⊥
-  case_now e = let k = standing.case_set in let z : ◌≡◌ {A = ℕ} 0 1 = none_some k.0 (sym e ∙ k.1) in omega arith
-    where
-      none_some : (c : CaseData) → None ≡ Some c → ◌≡◌ {A = ℕ} 0 1
-      none_some c q = cc
+  case_now e = let k = standing.case_set in let q = sym e ∙ k.1 in cc
 
 -- a finding, from its parts
 pub found_is : (b : Book) (c : CaseData) (o : Option CaseData) (es : List Element) (lo up gov : ℕ) (v : Verdict) → o ≡ Some c

@@ -1,4 +1,3 @@
 pub mod Following
 pub mod Writing
-pub mod Performing
 pub mod Assessments

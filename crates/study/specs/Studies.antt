@@ -1,5 +1,5 @@
 -- Studies held against the ledger.
-use Rattle.std.specs.Prelude.{◌≡◌, ℕ, Bool, true, false, List, ◌∷◌, ◌++◌, length, drop, Ok, Err, Result}
+use Rattle.std.specs.Prelude.{◌≡◌, ℕ, Bool, true, false, List, ◌∷◌, ◌++◌, length, drop, Some, None, Option, Ok, Err, Result}
 use Rattle.walking.specs.Curves.{Tables}
 use Rattle.walking.specs.Rules.{Rules}
 use Rattle.network.specs.declared.Refusal.{Refusal}
@@ -13,8 +13,6 @@ use Rattle.ledger.specs.Sound.{SoundReply}
 use Rattle.study.specs.declared.Study.{Study}
 use Rattle.study.specs.declared.Call.{Call}
 use Rattle.study.specs.declared.Call.TheVariants.{Set, Enter, Alter, Strike, Close, Reopen, Assess}
-use Rattle.study.specs.declared.Outcome.{Outcome}
-use Rattle.study.specs.declared.Outcome.TheVariants.{Done, Found}
 
 abbrev pub ledger_of : Study → Ledger
 ledger_of s = ledger_with s.stage s.case (listed s.elements)
@@ -45,11 +43,11 @@ told_done r = replied (λ _. nothing) r
 abbrev pub told_found : Result Finding Refusal → Reply
 told_found r = replied found r
 
-abbrev pub given_by : Outcome → Given
-given_by Done = nothing
-given_by (Found f) = found f
+abbrev pub given_by : Option Finding → Given
+given_by None = nothing
+given_by (Some f) = found f
 
-abbrev pub told_outcome : Result Outcome Refusal → Reply
+abbrev pub told_outcome : Result (Option Finding) Refusal → Reply
 told_outcome r = replied given_by r
 
 abbrev pub is_refused : Reply → Bool

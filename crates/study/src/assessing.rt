@@ -1,6 +1,5 @@
 ghost use Rattle.std.specs.Prelude.{◌≡◌, length};
-ghost use Rattle.ledger.specs.Ledger.{assessing, reply, written};
-ghost use Rattle.ledger.specs.declared.Stage.TheVariants.{Closed};
+ghost use Rattle.ledger.specs.Ledger.{written};
 ghost use Rattle.study.specs.Studies.{ledger_of, told_found, wrote, asked, FollowsLedger};
 
 use super::*;
@@ -12,18 +11,19 @@ use walking::RuleBook;
 use worksheet::Filling;
 
 impl Study {
-    // The finding of a closed study, with its worksheet written to the first lines.
-    pub(crate) fn find<B: RuleBook>(&self, book: &B, lines: &mut [Line]) -> Result<Finding, Refusal>
-        requires closed { self.now.stage ≡ Closed }
-        ensures answered { told_found result ≡ reply (ledger_of self.now) (asked (B.WalkingTables.meaning book.now) (B.RuleBook.rules book.now) (length lines.old)) }
-        ensures follows { FollowsLedger self.now (asked (B.WalkingTables.meaning book.now) (B.RuleBook.rules book.now) (length lines.old)) (told_found result) self.now }
-        ensures lines { lines.new ≡ wrote (written (ledger_of self.now) (asked (B.WalkingTables.meaning book.now) (B.RuleBook.rules book.now) (length lines.old))) lines.old }
+    // The finding of a closed study by a rule book, with its worksheet in the first lines; the study is not altered.
+    pub fn assess<B: RuleBook>(&self, book: &B, worksheet: &mut [Line]) -> Result<Finding, Refusal>
+        ensures follows { FollowsLedger self.now (asked (B.WalkingTables.meaning book.now) (B.RuleBook.rules book.now) (length worksheet.old)) (told_found result) self.now }
+        ensures worksheet { worksheet.new ≡ wrote (written (ledger_of self.now) (asked (B.WalkingTables.meaning book.now) (B.RuleBook.rules book.now) (length worksheet.old))) worksheet.old }
     {
+        let Stage::Closed = self.stage else {
+            return Err(Refusal::WrongStage);
+        };
         let Some(case_data) = self.case else {
             return Err(Refusal::CaseNotSet);
         };
         let elements = self.elements.elements();
-        if lines.len() < elements.len() {
+        if worksheet.len() < elements.len() {
             return Err(Refusal::WorksheetTooShort);
         }
         let network = ReadyNetwork { elements };
@@ -31,8 +31,8 @@ impl Study {
             tables: book,
             network,
         }
-        .work_out(lines)?;
-        let ends = find_ends(elements, lines);
+        .work_out(worksheet)?;
+        let ends = find_ends(elements, worksheet);
         Ok(Finding {
             verdict: judge(book, case_data, ends.time),
             time: ends.time,

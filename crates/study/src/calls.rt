@@ -1,21 +1,10 @@
-ghost use Rattle.std.specs.Prelude.{◌≡◌, [], length};
-ghost use Rattle.ledger.specs.Ledger.{new_ledger, setting, entering, altering, striking, closing, reopening, written};
+ghost use Rattle.std.specs.Prelude.{◌≡◌, []};
+ghost use Rattle.ledger.specs.Ledger.{new_ledger, setting, entering, altering, striking, closing, reopening};
 ghost use Rattle.ledger.specs.Runs.{Run};
-ghost use Rattle.ledger.specs.Reach.{EveryRunIsLawful};
-ghost use Rattle.ledger.specs.Sound.{EveryRunIsSound};
-ghost use Rattle.study.specs.Studies.{ledger_of, asked, request_of, told_done, told_found, told_outcome, wrote, FollowsLedger};
+ghost use Rattle.study.specs.Studies.{ledger_of, told_done, FollowsLedger};
 
 use super::*;
-use sheet::Line;
-use walking::RuleBook;
-
-// What a call that alters a study says of its success.
-fn done(res: Result<(), Refusal>) -> Result<Outcome, Refusal>
-    ensures { told_outcome result ≡ told_done res }
-{
-    res?;
-    Ok(Outcome::Done)
-}
+use network::{check_case, check_element};
 
 impl Study {
     // An open study without a case and without elements.
@@ -30,43 +19,17 @@ impl Study {
         }
     }
 
-    // Carries out a call; what it does depends on the stage.
-    pub fn perform<B: RuleBook>(
-        &mut self,
-        call: Call<'_, B>,
-        worksheet: &mut [Line],
-    ) -> Result<Outcome, Refusal>
-        ensures follows { FollowsLedger self.old (request_of B.WalkingTables.meaning B.RuleBook.rules (length worksheet.old) call.entry) (told_outcome result) self.new }
-        ensures worksheet { worksheet.new ≡ wrote (written (ledger_of self.old) (request_of B.WalkingTables.meaning B.RuleBook.rules (length worksheet.old) call.entry)) worksheet.old }
-        ensures reachable { EveryRunIsLawful }
-        ensures sound { EveryRunIsSound }
-    {
-        match (self.stage, call) {
-            (Stage::Open, Call::Set(data)) => done(self.store_case(data)),
-            (Stage::Open, Call::Enter(draft)) => done(self.append(draft)),
-            (Stage::Open, Call::Alter(number, draft)) => done(self.replace(number, draft)),
-            (Stage::Open, Call::Strike(number)) => done(self.remove(number)),
-            (Stage::Open, Call::Close) => done(self.settle()),
-            (Stage::Closed, Call::Reopen) => {
-                self.stage = Stage::Open;
-                Ok(Outcome::Done)
-            }
-            (Stage::Closed, Call::Assess(book)) => Ok(Outcome::Found(self.find(book, worksheet)?)),
-            (Stage::Open, Call::Reopen | Call::Assess(_)) => Err(Refusal::WrongStage),
-            (
-                Stage::Closed,
-                Call::Set(_) | Call::Enter(_) | Call::Alter(_, _) | Call::Strike(_) | Call::Close,
-            ) => { Err(Refusal::WrongStage) }
-        }
-    }
-
     // Stores the case data, in place of any there were.
     pub fn set(&mut self, data: CaseData) -> Result<(), Refusal>
         ensures { FollowsLedger self.old (setting «data») (told_done result) self.new }
     {
         match self.stage {
-            Stage::Open => self.store_case(data),
             Stage::Closed => Err(Refusal::WrongStage),
+            Stage::Open => {
+                check_case(data)?;
+                self.case = Some(data);
+                Ok(())
+            }
         }
     }
 
@@ -75,8 +38,16 @@ impl Study {
         ensures { FollowsLedger self.old (entering draft) (told_done result) self.new }
     {
         match self.stage {
-            Stage::Open => self.append(draft),
             Stage::Closed => Err(Refusal::WrongStage),
+            Stage::Open => {
+                let count = self.elements.count();
+                if count >= 128 {
+                    return Err(Refusal::TableFull);
+                }
+                let element = check_element(draft, count as u32 + 1)?;
+                self.elements.push(element);
+                Ok(())
+            }
         }
     }
 
@@ -85,8 +56,13 @@ impl Study {
         ensures { FollowsLedger self.old (altering number draft) (told_done result) self.new }
     {
         match self.stage {
-            Stage::Open => self.replace(number, draft),
             Stage::Closed => Err(Refusal::WrongStage),
+            Stage::Open => {
+                let index = self.index_of(number)?;
+                let element = check_element(draft, number)?;
+                self.elements.replace(index, element);
+                Ok(())
+            }
         }
     }
 
@@ -95,8 +71,12 @@ impl Study {
         ensures { FollowsLedger self.old (striking number) (told_done result) self.new }
     {
         match self.stage {
-            Stage::Open => self.remove(number),
             Stage::Closed => Err(Refusal::WrongStage),
+            Stage::Open => {
+                let index = self.index_of(number)?;
+                self.elements.remove(index);
+                Ok(())
+            }
         }
     }
 
@@ -105,8 +85,18 @@ impl Study {
         ensures { FollowsLedger self.old closing (told_done result) self.new }
     {
         match self.stage {
-            Stage::Open => self.settle(),
             Stage::Closed => Err(Refusal::WrongStage),
+            Stage::Open => {
+                if self.case.is_none() {
+                    return Err(Refusal::CaseNotSet);
+                }
+                if !(1..=8000).contains(&self.elements.aboard()) {
+                    return Err(Refusal::AboardOutOfRange);
+                }
+                self.elements.check_points()?;
+                self.stage = Stage::Closed;
+                Ok(())
+            }
         }
     }
 
@@ -120,17 +110,6 @@ impl Study {
                 self.stage = Stage::Open;
                 Ok(())
             }
-        }
-    }
-
-    // The finding of a closed study by a rule book, with its worksheet in the first lines; the study is not altered.
-    pub fn assess<B: RuleBook>(&self, book: &B, worksheet: &mut [Line]) -> Result<Finding, Refusal>
-        ensures follows { FollowsLedger self.now (asked (B.WalkingTables.meaning book.now) (B.RuleBook.rules book.now) (length worksheet.old)) (told_found result) self.now }
-        ensures worksheet { worksheet.new ≡ wrote (written (ledger_of self.now) (asked (B.WalkingTables.meaning book.now) (B.RuleBook.rules book.now) (length worksheet.old))) worksheet.old }
-    {
-        match self.stage {
-            Stage::Open => Err(Refusal::WrongStage),
-            Stage::Closed => self.find(book, worksheet),
         }
     }
 }

@@ -6,7 +6,7 @@ ghost use Rattle.ledger.specs.Reach.{LawfulLedger};
 
 mod assessing;
 mod calls;
-mod steps;
+mod performing;
 mod views;
 
 use ledger::Stage;
@@ -14,7 +14,7 @@ use network::{CaseData, Draft, Element, ElementTable, Refusal};
 use verdicts::Finding;
 
 // A call on a study, with its arguments. Elements are numbered from 1.
-#[derive(Clone, Copy)]
+#[derive(Clone, Copy, Debug)]
 pub enum Call<'a, B> {
     Set(CaseData),
     Enter(Draft),
@@ -23,13 +23,6 @@ pub enum Call<'a, B> {
     Close,
     Reopen,
     Assess(&'a B),
-}
-
-// What an accepted call hands back.
-#[derive(Clone, Copy)]
-pub enum Outcome {
-    Done,
-    Found(Finding),
 }
 
 // The study of one ship: its case data, its elements, and whether both are settled.

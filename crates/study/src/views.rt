@@ -1,6 +1,10 @@
 // What a study holds, for its callers to read.
-ghost use Rattle.std.specs.Prelude.{◌≡◌, length};
+ghost use Rattle.std.specs.Prelude.{◌≡◌, ◌-◌, ◌<◌, [], ◌∷◌, length, IfOk};
 ghost use Rattle.network.specs.Elements.{numbered};
+ghost use Rattle.network.specs.Refusals.{told};
+ghost use Rattle.network.specs.Sentences.{first_true};
+ghost use Rattle.network.specs.Tables.{listed};
+ghost use Rattle.ledger.specs.Ledger.{number_sentence};
 ghost use Rattle.ledger.specs.Reach.{LawfulLedger};
 ghost use Rattle.study.specs.Studies.{ledger_of};
 
@@ -38,9 +42,19 @@ impl Study {
     pub fn element(&self, number: u32) -> Option<Element>
         ensures { result ≡ numbered (ledger_of self.now).elements number }
     {
-        match self.index_of(number) {
-            Ok(index) => Some(self.elements()[index]),
-            Err(_) => None,
+        let index = self.index_of(number).ok()?;
+        Some(self.elements()[index])
+    }
+
+    // Where the element with this number lies.
+    pub(crate) fn index_of(&self, number: u32) -> Result<usize, Refusal>
+        ensures answered { told result ≡ first_true (number_sentence (listed self.now.elements) number ∷ []) (number - 1) }
+        ensures there { IfOk result (λ i. i < length (listed self.now.elements)) }
+    {
+        let numbers = 1..=self.elements.count();
+        if !numbers.contains(&(number as usize)) {
+            return Err(Refusal::NoSuchElement(number));
         }
+        Ok(number as usize - 1)
     }
 }

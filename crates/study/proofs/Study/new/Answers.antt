@@ -7,11 +7,7 @@ use Rattle.ledger.proofs.Reaches.{new_lawful}
 use Rattle.study.proofs.Study.new.Goals as goal
 
 pub invariant_of-result : goal.invariant_of-result
-invariant_of-result c =
-    let empty = ap (ledger_with Open None) c.new.ensures in
-    record { lawful = ∣ subst LawfulLedger (sym empty) new_lawful ∣₁ }
+invariant_of-result c = record { lawful = ∣ subst LawfulLedger (sym (ap (ledger_with Open None) c.new.ensures)) new_lawful ∣₁ }
 
-pub returns : goal.returns
-returns c =
-    let empty = ap (ledger_with Open None) c.new.ensures in
-    record { empty = empty; run = subst (Run _) (sym empty) start }
+pub returns-clause-run : goal.returns-clause-run
+returns-clause-run c = subst (Run _) (sym (ap (ledger_with Open None) c.new.ensures)) start

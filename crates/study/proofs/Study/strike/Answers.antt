@@ -1,13 +1,34 @@
-use Rattle.std.proofs.Common.{ap}
-use Rattle.network.specs.declared.Refusal.TheVariants.{WrongStage}
-use Rattle.ledger.specs.declared.Stage.TheVariants.{Open}
-use Rattle.ledger.specs.Ledger.{striking, same_stage}
-use Rattle.ledger.proofs.Answering.{out_of_stage}
+use Rattle.std.proofs.Common.{refl}
+use Rattle.network.specs.Tables.{listed}
 use Rattle.study.specs.Studies.{ledger_of}
-use Rattle.study.proofs.Following.{refuses}
+use Rattle.ledger.specs.Ledger.{striking}
+use Rattle.study.proofs.Following.{closed_refuses, refuses_with, accepts, stays_lawful}
+use Rattle.ledger.proofs.Answering.{striking_answer}
+use Rattle.study.proofs.Writing.{struck}
 use Rattle.study.proofs.Study.strike.Goals as goal
 
 pub returns-in-Closed : goal.returns-in-Closed
-returns-in-Closed c =
+returns-in-Closed c = closed_refuses c.args.self.now (striking c.args.number) refl c.in-Closed.is
+
+pub returns-in_err-index-in-Open : goal.returns-in_err-index-in-Open
+returns-in_err-index-in-Open c =
     let s = c.args.self.now in
-    refuses s (striking c.args.number) WrongStage (out_of_stage (ledger_of s) (striking c.args.number) (ap (λ x. same_stage x Open) c.in-Closed.is))
+    let n = c.args.number in
+    let e = striking_answer (ledger_of s) c.in-Open.is n _ c.in_err-index-in-Open.ensures.answered in
+    refuses_with s (striking n) c.from_residual.result _ c.from_residual.ensures.1 e
+
+pub invariant_of-self : goal.invariant_of-self
+invariant_of-self c =
+    let s = c.args.self.now in
+    let n = c.args.number in
+    let there = c.in_ok-index-in-Open.ensures.answered in
+    let e = striking_answer (ledger_of s) c.in-Open.is n _ there in
+    record { lawful = stays_lawful s (striking n) e _ (struck (ledger_of s) (listed c.remove.new.self) n _ there c.remove.ensures) }
+
+pub returns-in_ok-index-in-Open : goal.returns-in_ok-index-in-Open
+returns-in_ok-index-in-Open c =
+    let s = c.args.self.now in
+    let n = c.args.number in
+    let there = c.in_ok-index-in-Open.ensures.answered in
+    let e = striking_answer (ledger_of s) c.in-Open.is n _ there in
+    accepts s (striking n) e _ (struck (ledger_of s) (listed c.remove.new.self) n _ there c.remove.ensures)
