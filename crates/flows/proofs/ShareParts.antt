@@ -1,7 +1,6 @@
 -- The whole parts of the shares.
-use Rattle.std.proofs.Common.{◌≡◌, ℕ, ◌+◌, ◌-◌, ◌*◌, ◌/◌, ◌%◌, ◌^◌, ◌<◌, ◌≤◌, Bool, cond, ◌&&◌, ◌||◌, eqb, ltb, List, length, sym, ap, ◌∙◌, mul_comm, mul-le-mul_left, arith}
+use Rattle.std.proofs.Common.{◌≡◌, ℕ, ◌+◌, ◌-◌, ◌*◌, ◌/◌, ◌%◌, ◌^◌, ◌<◌, ◌≤◌, Bool, cond, ◌&&◌, ◌||◌, eqb, ltb, List, length, sym, ap, ◌∙◌, arith}
 use Rattle.std.specs.List.{filter, sum_by, enumerate_from}
-use native.Mathlib.Nat.{div-le_of_le-mul}
 use Rattle.std.proofs.lemmas.Bool.{lt-ltb, le-ltb, cond-true, cond-false}
 use Rattle.exact.specs.Sums.{sum_where, count_where}
 use Rattle.exact.proofs.SumLaws.{where_mono}
@@ -11,7 +10,7 @@ use Rattle.network.specs.Ready.{Ready}
 use Rattle.network.proofs.Readiness.{lawful_at}
 use Rattle.network.proofs.Standing.{ready_stands}
 use Rattle.sheet.specs.Shares.{width_out, part, remainder, before, left_over, share}
-use Rattle.sheet.proofs.ShareLaws.{wide_le, shares_all}
+use Rattle.sheet.proofs.ShareLaws.{shares_all}
 use Rattle.flows.proofs.PointSums.{where_small, sum_chosen, count_chosen}
 
 module _ (es : List Element) (p n i : ℕ) (s r : ℕ) (all : s ≡ width_out es p) where
@@ -22,11 +21,7 @@ module _ (es : List Element) (p n i : ℕ) (s r : ℕ) (all : s ≡ width_out es
   remainder_by h = h ∙ ap (λ q. n * (el es i).width % q) all
 
 module _ (es : List Element) (p n : ℕ) where
-  -- a whole part is no more than all
-  pub part_le : (i : ℕ) → i < length es → (el es i).from ≡ p → part es p n i ≤ n
-  part_le i l h = div-le_of_le-mul (width_out es p) (omega (arith, mul-le-mul_left n (wide_le es p i l h), mul_comm n (width_out es p)))
-
-  -- and so are all of them
+  -- the whole parts are no more than all
   pub parts_le : 0 < width_out es p → sum_where (length es) (leaves es p) (part es p n) ≤ n
   unfolding share
   parts_le some = omega (arith, where_mono (length es) (leaves es p) (part es p n) (share es p n) (λ i l h. omega arith), shares_all es p n some)

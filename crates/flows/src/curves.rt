@@ -1,4 +1,5 @@
-ghost use Rattle.std.specs.Prelude.{◌≡◌};
+ghost use Rattle.std.specs.Prelude.{◌≡◌, ◌*◌};
+ghost use Rattle.curves.specs.Reading.{mega};
 ghost use Rattle.flows.specs.Curves.{walking_curve as curve_walked, starting_curve as curve_started};
 
 use network::Kind;
@@ -32,4 +33,11 @@ pub(crate) fn starting_curve(kind: Kind) -> Option<u8>
         Kind::Corridor => Some(BY_DENSITY),
         Kind::Door | Kind::StairDown | Kind::StairUp => walking_curve(kind),
     }
+}
+
+// An entry of walking tables, which has thousandths, in billionths.
+pub(crate) fn billionths(thousandths: u32) -> u64
+    ensures { result ≡ thousandths * mega }
+{
+    thousandths as u64 * 1_000_000
 }

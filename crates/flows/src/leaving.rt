@@ -6,10 +6,9 @@ ghost use Rattle.curves.specs.Reading.{mega};
 ghost use Rattle.sheet.specs.Lines.{shown};
 ghost use Rattle.sheet.specs.Points.{last_entry, most, speed_at, cut, leaving};
 
-use super::curves::walking_curve;
-use super::lines::NO_ENDS;
+use super::curves::{billionths, walking_curve};
 use super::{Passage, Passing};
-use exact::{Ends, Quotient};
+use exact::Ends;
 use reading::{flow_through, read_falling};
 use sheet::Line;
 use walking::WalkingTables;
@@ -21,18 +20,7 @@ pub fn specific_flow(flow: Ends, width: u32) -> Ends
     requires some { 0 < width }
     ensures { (x : Fraction) → result ≡ ends (rising (scaled 1000 width) (around flow x)) }
 {
-    let lower = Quotient {
-        dividend: flow.lower * 1000,
-        divisor: width as u64,
-    };
-    let upper = Quotient {
-        dividend: flow.upper * 1000,
-        divisor: width as u64,
-    };
-    Ends {
-        lower: lower.rounded_down(),
-        upper: upper.rounded_up(),
-    }
+    flow.scaled(1000, width as u64)
 }
 
 fn cut_to(greatest: u64, specific_flow: Ends) -> Ends
@@ -52,7 +40,7 @@ impl<T: WalkingTables> Passage<'_, T> {
         ensures { result ≡ last_entry (curve_of (T.WalkingTables.meaning self.now.tables.now) curve) * mega }
     {
         let last = self.tables.rows(curve) - 1;
-        self.tables.row(curve, last).0 as u64 * 1_000_000
+        billionths(self.tables.row(curve, last).0)
     }
 
     // The greatest specific flow that the element takes.
@@ -61,7 +49,7 @@ impl<T: WalkingTables> Passage<'_, T> {
     {
         match walking_curve(self.element.kind) {
             Some(curve) => self.last_entry(curve),
-            None => self.tables.door_flow() as u64 * 1_000_000,
+            None => billionths(self.tables.door_flow()),
         }
     }
 
@@ -71,7 +59,7 @@ impl<T: WalkingTables> Passage<'_, T> {
     {
         match walking_curve(self.element.kind) {
             Some(curve) => read_falling(self.tables, curve, specific_flow),
-            None => NO_ENDS,
+            None => Ends::default(),
         }
     }
 

@@ -15,7 +15,6 @@ mod shares;
 mod sources;
 
 pub use leaving::specific_flow;
-pub use lines::NO_LINE;
 pub use points::arrivals_at;
 pub use shares::width_out;
 
@@ -38,7 +37,7 @@ pub(crate) struct Passing {
 }
 
 /// What comes to a point: the flows together, and the persons together.
-#[derive(Clone, Copy)]
+#[derive(Clone, Copy, PartialEq, Eq, Debug)]
 pub struct Arrivals {
     pub flow: Ends,
     pub persons: u32,

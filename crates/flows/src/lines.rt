@@ -8,25 +8,12 @@ use exact::{Ends, Quotient};
 use network::Kind;
 use sheet::Line;
 
-// No flow, no speed, no time.
-pub(crate) const NO_ENDS: Ends = Ends { lower: 0, upper: 0 };
-
-/// The line of an element that is not worked.
-pub const NO_LINE: Line = Line {
-    persons: 0,
-    queue: false,
-    flow: NO_ENDS,
-    speed: NO_ENDS,
-    flow_duration: NO_ENDS,
-    travel: NO_ENDS,
-};
-
 // How long an amount takes at a rate, rounded both ways; no time where the rate is 0.
 fn time_at(amount: u64, rate: u64) -> Ends
     ensures { result ≡ ends (rounded (over amount (whole rate))) }
 {
     if rate == 0 {
-        return NO_ENDS;
+        return Ends::default();
     }
     Quotient {
         dividend: amount,
@@ -35,16 +22,11 @@ fn time_at(amount: u64, rate: u64) -> Ends
     .rounded_both_ways()
 }
 
-// How long an amount takes at a rate between two ends: its lower end is that of the upper rate.
+// How long an amount takes at a rate between two ends.
 fn time_between(amount: u64, rate: Ends) -> Ends
     ensures { (x : Fraction) → result ≡ ends (falling (over amount) (around rate x)) }
 {
-    let shortest = time_at(amount, rate.upper);
-    let longest = time_at(amount, rate.lower);
-    Ends {
-        lower: shortest.lower,
-        upper: longest.upper,
-    }
+    rate.falling(|rate| time_at(amount, rate))
 }
 
 impl Passing {
@@ -53,7 +35,7 @@ impl Passing {
         ensures { (x : Fraction) → result ≡ ends (if nat_eq self.now.persons 0 then exactly 0 else falling (over (self.now.persons * 10 ^ 15)) (around self.now.flow x)) }
     {
         if self.persons == 0 {
-            return NO_ENDS;
+            return Ends::default();
         }
         time_between(self.persons as u64 * 1_000_000_000_000_000, self.flow)
     }
@@ -65,7 +47,7 @@ impl<T> Passage<'_, T> {
         ensures { (x : Fraction) → result ≡ ends (walk self.now.element.now.kind self.now.element.now.length (around speed x)) }
     {
         match self.element.kind {
-            Kind::Door => NO_ENDS,
+            Kind::Door => Ends::default(),
             Kind::Corridor | Kind::StairDown | Kind::StairUp => {
                 time_between(self.element.length as u64 * 1_000_000_000_000, speed)
             }
@@ -77,7 +59,7 @@ impl<T> Passage<'_, T> {
         ensures { (x : Fraction) → result ≡ ends (if nat_eq passing.persons 0 then exactly 0 else walk self.now.element.now.kind self.now.element.now.length (around passing.speed x)) }
     {
         if passing.persons == 0 {
-            return NO_ENDS;
+            return Ends::default();
         }
         self.walk_time(passing.speed)
     }

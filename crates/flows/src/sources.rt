@@ -1,13 +1,11 @@
-ghost use Rattle.std.specs.Prelude.{◌≡◌, ◌*◌};
-ghost use Rattle.exact.specs.Worked.{ends, exactly as whole};
+ghost use Rattle.std.specs.Prelude.{◌≡◌};
+ghost use Rattle.exact.specs.Worked.{ends};
 ghost use Rattle.walking.specs.Curves.{curve_of};
-ghost use Rattle.curves.specs.Reading.{mega};
 ghost use Rattle.network.specs.declared.Kind.TheVariants.{Corridor, Door};
 ghost use Rattle.sheet.specs.Lines.{shown};
 ghost use Rattle.sheet.specs.Sources.{row_speed as speed_of_row, first_speed as speed_at_start, empty_source as empty_line, full_source as full_line, source};
 
-use super::curves::starting_curve;
-use super::lines::NO_ENDS;
+use super::curves::{billionths, starting_curve};
 use super::{Passage, Passing};
 use exact::Ends;
 use network::Kind;
@@ -15,23 +13,12 @@ use reading::{SourceCorridor, flow_through};
 use sheet::Line;
 use walking::WalkingTables;
 
-// Thousandths, in billionths.
-fn exactly(thousandths: u32) -> Ends
-    ensures { result ≡ ends (whole (thousandths * mega)) }
-{
-    let billionths = thousandths as u64 * 1_000_000;
-    Ends {
-        lower: billionths,
-        upper: billionths,
-    }
-}
-
 impl<T: WalkingTables> Passage<'_, T> {
     // The speed of row 0 of a curve.
     fn row_speed(&self, curve: u8) -> Ends
         ensures { result ≡ ends (speed_of_row (curve_of (T.WalkingTables.meaning self.now.tables.now) curve)) }
     {
-        exactly(self.tables.row(curve, 0).2)
+        Ends::exactly(billionths(self.tables.row(curve, 0).2))
     }
 
     // The speed of a source without persons.
@@ -40,7 +27,7 @@ impl<T: WalkingTables> Passage<'_, T> {
     {
         match starting_curve(self.element.kind) {
             Some(curve) => self.row_speed(curve),
-            None => NO_ENDS,
+            None => Ends::default(),
         }
     }
 
@@ -51,7 +38,7 @@ impl<T: WalkingTables> Passage<'_, T> {
         self.line(Passing {
             persons: 0,
             queue: false,
-            flow: NO_ENDS,
+            flow: Ends::default(),
             speed: self.first_speed(),
         })
     }
@@ -79,12 +66,12 @@ impl<T: WalkingTables> Passage<'_, T> {
     fn full_door(&self) -> Line
         ensures { result ≡ shown self.now.element.now (full_line (T.WalkingTables.meaning self.now.tables.now) Door self.now.element.now) }
     {
-        let specific_flow = exactly(self.tables.door_flow());
+        let specific_flow = Ends::exactly(billionths(self.tables.door_flow()));
         self.line(Passing {
             persons: self.element.persons,
             queue: false,
             flow: flow_through(self.element.width, specific_flow),
-            speed: NO_ENDS,
+            speed: Ends::default(),
         })
     }
 

@@ -11,7 +11,7 @@ use walking::RuleBook;
 use worksheet::Filling;
 
 impl Study {
-    // The finding of a closed study by a rule book, with its worksheet in the first lines; the study is not altered.
+    /// The finding of a closed study by a rule book, with its worksheet in the first lines; the study is not altered.
     pub fn assess<B: RuleBook>(&self, book: &B, worksheet: &mut [Line]) -> Result<Finding, Refusal>
         ensures follows { FollowsLedger self.now (asked (B.WalkingTables.meaning book.now) (B.RuleBook.rules book.now) (length worksheet.old)) (told_found result) self.now }
         ensures worksheet { worksheet.new ≡ wrote (written (ledger_of self.now) (asked (B.WalkingTables.meaning book.now) (B.RuleBook.rules book.now) (length worksheet.old))) worksheet.old }

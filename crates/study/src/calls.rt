@@ -7,7 +7,7 @@ use super::*;
 use network::{check_case, check_element};
 
 impl Study {
-    // An open study without a case and without elements.
+    /// An open study without a case and without elements.
     pub fn new() -> Study
         ensures empty { ledger_of result ≡ new_ledger }
         ensures run { Run [] (ledger_of result) }
@@ -19,7 +19,7 @@ impl Study {
         }
     }
 
-    // Stores the case data, in place of any there were.
+    /// Stores the case data, in place of any there were.
     pub fn set(&mut self, data: CaseData) -> Result<(), Refusal>
         ensures { FollowsLedger self.old (setting «data») (told_done result) self.new }
     {
@@ -33,7 +33,7 @@ impl Study {
         }
     }
 
-    // Appends an element, which gets the next number.
+    /// Appends an element, which gets the next number.
     pub fn enter(&mut self, draft: Draft) -> Result<(), Refusal>
         ensures { FollowsLedger self.old (entering draft) (told_done result) self.new }
     {
@@ -51,7 +51,7 @@ impl Study {
         }
     }
 
-    // Replaces the element with this number.
+    /// Replaces the element with this number.
     pub fn alter(&mut self, number: u32, draft: Draft) -> Result<(), Refusal>
         ensures { FollowsLedger self.old (altering number draft) (told_done result) self.new }
     {
@@ -66,7 +66,7 @@ impl Study {
         }
     }
 
-    // Removes the element with this number; later ones move down by one.
+    /// Removes the element with this number; later ones move down by one.
     pub fn strike(&mut self, number: u32) -> Result<(), Refusal>
         ensures { FollowsLedger self.old (striking number) (told_done result) self.new }
     {
@@ -80,7 +80,7 @@ impl Study {
         }
     }
 
-    // Settles the study, if it can be assessed.
+    /// Settles the study, if it can be assessed.
     pub fn close(&mut self) -> Result<(), Refusal>
         ensures { FollowsLedger self.old closing (told_done result) self.new }
     {
@@ -100,7 +100,7 @@ impl Study {
         }
     }
 
-    // Makes a closed study alterable again.
+    /// Makes a closed study alterable again.
     pub fn reopen(&mut self) -> Result<(), Refusal>
         ensures { FollowsLedger self.old reopening (told_done result) self.new }
     {

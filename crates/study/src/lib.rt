@@ -13,7 +13,7 @@ use ledger::Stage;
 use network::{CaseData, Draft, Element, ElementTable, Refusal};
 use verdicts::Finding;
 
-// A call on a study, with its arguments. Elements are numbered from 1.
+/// A call on a study, with its arguments. Elements are numbered from 1.
 #[derive(Clone, Copy, Debug)]
 pub enum Call<'a, B> {
     Set(CaseData),
@@ -25,7 +25,7 @@ pub enum Call<'a, B> {
     Assess(&'a B),
 }
 
-// The study of one ship: its case data, its elements, and whether both are settled.
+/// The study of one ship: its case data, its elements, and whether both are settled.
 #[derive(Drop)]
 pub struct Study {
     stage: Stage,

@@ -10,7 +10,7 @@ use walking::RuleBook;
 
 #[tactic(auto, using(ledger::proofs::Reaches::every_run_is_lawful, ledger::proofs::Soundness::every_run_is_sound), unfolding(ledger::specs::Ledger::written))]
 impl Study {
-    // Carries out a call; what it does depends on the stage. An assessment gives its finding, any other call none.
+    /// Carries out a call; what it does depends on the stage. An assessment gives its finding, any other call none.
     pub fn perform<B: RuleBook>(
         &mut self,
         call: Call<'_, B>,

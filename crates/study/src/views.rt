@@ -11,7 +11,7 @@ ghost use Rattle.study.specs.Studies.{ledger_of};
 use super::*;
 
 impl Study {
-    // The stage; and whatever it is, the study keeps what every study keeps.
+    /// The stage; and whatever it is, the study keeps what every study keeps.
     pub fn stage(&self) -> Stage
         ensures value { result ≡ (ledger_of self.now).stage }
         ensures lawful { ∥ LawfulLedger (ledger_of self.now) ∥₁ }
@@ -31,14 +31,14 @@ impl Study {
         self.elements.count()
     }
 
-    // The elements in order of number.
+    /// The elements in order of number.
     pub fn elements(&self) -> &[Element]
         ensures { result.now ≡ (ledger_of self.now).elements }
     {
         self.elements.elements()
     }
 
-    // The element with this number, from 1.
+    /// The element with this number, from 1.
     pub fn element(&self, number: u32) -> Option<Element>
         ensures { result ≡ numbered (ledger_of self.now).elements number }
     {

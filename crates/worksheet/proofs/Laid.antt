@@ -1,8 +1,8 @@
 -- A loop that writes new lines over the first ones of a slice, one after another.
-use Rattle.std.proofs.Common.{◌≡◌, ℕ, zero, suc, ◌+◌, ◌<◌, ◌≤◌, List, [], ◌∷◌, ◌++◌, map, length, get_or, drop, set, replicate, sym, refl, ap, ◌∙◌, subst, arith}
+use Rattle.std.proofs.Common.{◌≡◌, ℕ, zero, suc, ◌+◌, ◌<◌, ◌≤◌, List, [], ◌∷◌, ◌++◌, map, length, get_or, drop, set, sym, refl, ap, ◌∙◌, subst, arith}
 use Rattle.std.specs.List.{range_with_len}
 use Rattle.std.proofs.lemmas.List.FromFn.{length-map-range_with_len, get_or-map-range_with_len, map-range_with_len_more, fill_by_all}
-use Rattle.std.proofs.lemmas.List.{append_assoc, length-append, length-drop, get_or_append_left, length-replicate, drop_at, drop_more, set_at, replicate_more}
+use Rattle.std.proofs.lemmas.List.{append_assoc, length-append, length-drop, get_or_append_left, drop_at, drop_more, set_at}
 use Rattle.worksheet.specs.Stages.{laid}
 
 module _ {X : Type 0} (d : X) (f : ℕ → X) (ys : List X) where
@@ -58,11 +58,3 @@ pub laid_same : {X : Type 0} (d : X) (f g : ℕ → X) (ys : List X) (n : ℕ) �
 laid_same d f g ys n h =
     ap (λ zs. zs ++ drop n ys)
     (fill_by_all g (map f (range_with_len 0 n)) n d (length-map-range_with_len f 0 n) (λ k l. get_or-map-range_with_len f 0 n k k d l (omega arith) ∙ h k l))
-
--- the same new line again and again
-pub cleared_more : {X : Type 0} (d x : X) (xs ys : List X) (i : ℕ) → i < length ys → xs ≡ replicate i x ++ drop i ys → set xs i x ≡ replicate (i + 1) x ++ drop (i + 1) ys
-cleared_more d x xs ys i l e =
-    ap (λ zs. set zs i x) (e ∙ ap (λ zs. replicate i x ++ zs) (drop_more ys i d l))
-    ∙ set_at (replicate i x) (get_or ys i d) (drop (i + 1) ys) x i (length-replicate i x)
-    ∙ sym (append_assoc (replicate i x) (x ∷ []) (drop (i + 1) ys))
-    ∙ ap (λ zs. zs ++ drop (i + 1) ys) (replicate_more i x)

@@ -16,9 +16,6 @@ use Rattle.flows.specs.Points.{line_at}
 use Rattle.worksheet.specs.Stages.{laid, shown_at, held, departed}
 use Rattle.worksheet.proofs.Laid.{laid_set, laid_keep}
 
-pub all_laid : (f : ℕ → Line) (xs ys : List Line) (k n : ℕ) → k ≡ n → xs ≡ laid f k ys → xs ≡ laid f n ys
-all_laid f xs ys k n e h = h ∙ ap (λ m. laid f m ys) e
-
 -- all elements are passed
 pub all_held : (es : List Element) (ws : List WorkedLine) (xs ys : List Line) (k : ℕ) → k ≡ length es → xs ≡ laid (shown_at es ws) k ys → xs ≡ held es ws ys
 unfolding held

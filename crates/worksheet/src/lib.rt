@@ -5,7 +5,7 @@ use network::ReadyNetwork;
 mod stages;
 mod thin_flows;
 
-// A network that is ready, and the walking tables by which its worksheet is filled.
+/// A network that is ready, and the walking tables by which its worksheet is filled.
 #[derive(Drop)]
 pub struct Filling<'t, 'n, T> {
     pub tables: &'t T,

@@ -8,7 +8,7 @@ ghost use Rattle.worksheet.specs.Stages.{Holds, laid, departed, held};
 
 use super::Filling;
 use exact::Ends;
-use flows::{NO_LINE, Passage, Sharing, arrivals_at, specific_flow, width_out};
+use flows::{Passage, Sharing, arrivals_at, specific_flow, width_out};
 use sheet::Line;
 use walking::WalkingTables;
 
@@ -19,7 +19,7 @@ fn first_line<T: WalkingTables>(passage: &Passage<'_, T>) -> Line
     if passage.element.from == 0 {
         passage.source_line()
     } else {
-        NO_LINE
+        Line::default()
     }
 }
 

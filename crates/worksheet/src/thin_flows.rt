@@ -5,7 +5,6 @@ ghost use Rattle.sheet.specs.Lines.{no_line};
 ghost use Rattle.worksheet.specs.Thin.{line_thin, first_thin_line, number_or_none, thin_sentences, worked_out};
 
 use super::Filling;
-use flows::NO_LINE;
 use network::Refusal;
 use sheet::Line;
 use walking::WalkingTables;
@@ -30,12 +29,12 @@ fn clear_lines(count: usize, sheet: &mut [Line])
     requires { count ≤ length sheet.old }
     ensures { sheet.new ≡ replicate count no_line ++ drop count sheet.old }
 {
-    sheet[0..count].fill(NO_LINE);
+    sheet[0..count].fill(Line::default());
 }
 
 impl<T: WalkingTables> Filling<'_, '_, T> {
-    // The worksheet of the network, unless a flow is thin: then the first such element refuses it, and the lines of the
-    // elements are zeros.
+    /// The worksheet of the network, unless a flow is thin: then the first such element refuses it, and the lines of the
+    /// elements are zeros.
     pub fn work_out(&self, sheet: &mut [Line]) -> Result<(), Refusal>
         requires { length self.now.network.elements.now ≤ length sheet.old }
         ensures answered { told result ≡ first_true (thin_sentences (T.WalkingTables.meaning self.now.tables.now) self.now.network.elements.now) tt }

@@ -17,7 +17,7 @@ macro_rules! draft {
     };
 }
 
-// The first zone, a night case with 449 persons on seven decks; everyone goes to the assembly deck 8.
+/// The first zone, a night case with 449 persons on seven decks; everyone goes to the assembly deck 8.
 pub const FIRST_ZONE: [Draft; 45] = [
     // Deck 5, corridor 1
     draft!(1, 0, 1, 900, 13_000, 11),
@@ -111,7 +111,7 @@ pub const FIRST_ZONE: [Draft; 45] = [
     draft!(1, 22, 0, 2_500, 7_500, 0),
 ];
 
-// The second zone, a day case with 1,138 persons on three decks; deck 8 is the assembly deck.
+/// The second zone, a day case with 1,138 persons on three decks; deck 8 is the assembly deck.
 pub const SECOND_ZONE: [Draft; 21] = [
     // Deck 6, door A
     draft!(2, 0, 1, 1_000, 0, 100),
