@@ -5,6 +5,8 @@ use network::ReadyNetwork;
 mod stages;
 mod thin_flows;
 
+pub use thin_flows::{clear_lines, first_thin};
+
 /// A network that is ready, and the walking tables by which its worksheet is filled.
 #[derive(Drop)]
 pub struct Filling<'t, 'n, T> {

@@ -76,8 +76,8 @@ impl<T: WalkingTables> Filling<'_, '_, T> {
         }
     }
 
-    // The worksheet: the sources' lines, then point after point. Lines beyond the elements are not touched.
-    pub(crate) fn fill(&self, sheet: &mut [Line])
+    /// The worksheet: the sources' lines, then point after point. Lines beyond the elements are not touched.
+    pub fn fill(&self, sheet: &mut [Line])
         requires { length self.now.network.elements.now ≤ length sheet.old }
         ensures { sheet.new ≡ lines (T.WalkingTables.meaning self.now.tables.now) self.now.network.elements.now ++ drop (length self.now.network.elements.now) sheet.old }
     {

@@ -16,16 +16,16 @@ fn is_thin(line: &Line) -> bool
     line.persons > 0 && line.flow.lower < 10_000_000
 }
 
-// The number of the first element with a thin flow, from 1.
-fn first_thin(sheet: &[Line]) -> Option<u32>
+/// The number of the first element with a thin flow, from 1.
+pub fn first_thin(sheet: &[Line]) -> Option<u32>
     requires { length sheet.now ≤ 128 }
     ensures { result ≡ number_or_none (first_thin_line sheet.now 0) }
 {
     sheet.iter().position(is_thin).map(|index| index as u32 + 1)
 }
 
-// Sets the first lines to zeros.
-fn clear_lines(count: usize, sheet: &mut [Line])
+/// Sets the first lines to zeros.
+pub fn clear_lines(count: usize, sheet: &mut [Line])
     requires { count ≤ length sheet.old }
     ensures { sheet.new ≡ replicate count no_line ++ drop count sheet.old }
 {
