@@ -15,14 +15,14 @@ use Rattle.network.proofs.First.{NoneTrue}
 use Rattle.network.proofs.Rules.{lawful_element, element_passes}
 use Rattle.network.proofs.Readiness.{lawful_at}
 
-none_prop : (ss : List Sentence) → IsProp (NoneTrue ss)
+pub none_prop : (ss : List Sentence) → IsProp (NoneTrue ss)
 none_prop [] = Unit-prop
 none_prop (s ∷ ss) = ×_prop (Bool-set s.holds false) (none_prop ss)
 
 pub element_stands : {e : Element} → ∥ LawfulElement e ∥₁ → LawfulElement e
 element_stands {e} t = lawful_element e 0 (∥∥₁_elim t (none_prop (measure_sentences e 0)) (element_passes e 0))
 
-elements_stand : (es : List Element) → ∥ AllByRecursion LawfulElement es ∥₁ → AllByRecursion LawfulElement es
+pub elements_stand : (es : List Element) → ∥ AllByRecursion LawfulElement es ∥₁ → AllByRecursion LawfulElement es
 elements_stand [] t = tt
 elements_stand (e ∷ es) t = (element_stands (∥∥₁_map t (λ a. a.0)), elements_stand es (∥∥₁_map t (λ a. a.1)))
 
