@@ -11,6 +11,7 @@ use ways::End;
 
 mod passes;
 mod ranks;
+mod reach;
 mod timed;
 
 use ranks::{LongestWalks, Ranked};

@@ -1,8 +1,9 @@
 ghost use Rattle.std.specs.Prelude.{◌≡◌, ◌≤◌};
 ghost use Rattle.ways.specs.Ends.{end_of};
-ghost use Rattle.ways.specs.Walks.{near_point, far_point, gain, longest_from, Reaches, Low};
+ghost use Rattle.ways.specs.Walks.{near_point, far_point, gain, longest_from, Reaches};
 ghost use Rattle.routes.specs.Timed.{timed_net};
 
+use super::reach::Reach;
 use super::timed::TimedNetwork;
 use network::Element;
 use sheet::Line;
@@ -18,14 +19,13 @@ pub struct Pass<'a> {
 impl<'a> Pass<'a> {
     // The longest walk from p by this element, from the walks further on: 0 unless it is entered at p and someone
     // passes it.
-    fn reach_by(&self, element: Element, line: Line, reach: &[u64; 65], p: u8) -> u64
+    fn reach_by(&self, element: Element, line: Line, reach: &Reach, p: u8) -> u64
         requires far { far_point self.now.way element.from element.to ≤ 64 }
         requires travel { end_of self.now.network.end line.travel ≤ 100000000000000000 }
-        requires low { Low reach.now }
-        ensures { result ≡ gain reach.now line.persons (end_of self.now.network.end line.travel) (near_point self.now.way element.from element.to) (far_point self.now.way element.from element.to) p }
+        ensures { result ≡ gain reach.now.walks line.persons (end_of self.now.network.end line.travel) (near_point self.now.way element.from element.to) (far_point self.now.way element.from element.to) p }
     {
         if line.persons > 0 && self.way.near(element) == p {
-            reach[self.way.far(element) as usize] + self.network.end.of(line.travel)
+            reach.at(self.way.far(element)) + self.network.end.of(line.travel)
         } else {
             0
         }
@@ -34,9 +34,8 @@ impl<'a> Pass<'a> {
     // The longest walk from p by any element.
     // A loop and no `map` with `max`: the proof did not close that each pair which the closure is given keeps the bounds.
     #[tactic(auto, using(crate::proofs::Standing::walkable_stands))]
-    fn longest_at(&self, reach: &[u64; 65], p: u8) -> u64
-        requires low { Low reach.now }
-        ensures { result ≡ longest_from self.now.way (timed_net self.now.network) reach.now p }
+    fn longest_at(&self, reach: &Reach, p: u8) -> u64
+        ensures { result ≡ longest_from self.now.way (timed_net self.now.network) reach.now.walks p }
     {
         let mut longest = 0;
         for (element, line) in self.network.elements.iter().zip(self.network.lines) {
@@ -46,15 +45,14 @@ impl<'a> Pass<'a> {
     }
 
     /// The longest walks from all points, each found from those of the points that it leads to.
-    // A table indexed by the point, 0 to 64: it needs no heap.
-    pub fn longest_walks(&self) -> [u64; 65]
-        ensures longest { Reaches self.now.way (timed_net self.now.network) result }
-        ensures low { Low result }
+    pub fn longest_walks(&self) -> Reach
+        ensures { Reaches self.now.way (timed_net self.now.network) result.walks }
     {
-        let mut reach = [0; 65];
+        let mut reach = Reach::new();
         for k in 1..65 {
             let p = self.way.point(k);
-            reach[p as usize] = self.longest_at(&reach, p);
+            let longest = self.longest_at(&reach, p);
+            reach.set(p, longest);
         }
         reach
     }

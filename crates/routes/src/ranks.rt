@@ -1,10 +1,11 @@
 ghost use Rattle.std.specs.Prelude.{◌≡◌, ◌<◌, ◌≤◌, length};
 ghost use Rattle.ways.specs.Ends.{end_of};
 ghost use Rattle.ways.specs.declared.Way.TheVariants.{Back, Onward};
-ghost use Rattle.ways.specs.Walks.{rank, ranks, Reaches, FirstMost, Low};
+ghost use Rattle.ways.specs.Walks.{rank, ranks, Reaches, FirstMost};
 ghost use Rattle.routes.specs.Timed.{timed_net};
 
 use super::passes::Pass;
+use super::reach::Reach;
 use super::timed::TimedNetwork;
 use network::Element;
 use sheet::Line;
@@ -14,9 +15,8 @@ use ways::Way;
 #[derive(Drop)]
 pub struct LongestWalks<'a> {
     pub network: TimedNetwork<'a>,
-    pub back: [u64; 65],
-    pub onward: [u64; 65],
-    ghost low: { Low back × Low onward },
+    pub back: Reach,
+    pub onward: Reach,
 }
 
 /// The first element of the greatest rank.
@@ -29,8 +29,8 @@ pub struct Ranked {
 impl<'a> LongestWalks<'a> {
     pub fn find(network: TimedNetwork<'a>) -> LongestWalks<'a>
         ensures network { result.network ≡ network.entry }
-        ensures back { Reaches Back (timed_net network.entry) result.back }
-        ensures onward { Reaches Onward (timed_net network.entry) result.onward }
+        ensures back { Reaches Back (timed_net network.entry) result.back.walks }
+        ensures onward { Reaches Onward (timed_net network.entry) result.onward.walks }
     {
         let back = Pass {
             network,
@@ -54,22 +54,20 @@ impl<'a> LongestWalks<'a> {
         requires ends { element.to ≤ 64 }
         requires duration { end_of self.now.network.end line.flow_duration ≤ 1000000000000 }
         requires travel { end_of self.now.network.end line.travel ≤ 100000000000000000 }
-        ensures { result ≡ rank self.now.back self.now.onward line.persons (end_of self.now.network.end line.flow_duration) (end_of self.now.network.end line.travel) element.from element.to }
+        ensures { result ≡ rank self.now.back.walks self.now.onward.walks line.persons (end_of self.now.network.end line.flow_duration) (end_of self.now.network.end line.travel) element.from element.to }
     {
         if line.persons == 0 {
             return 0;
         }
         let end = self.network.end;
-        let walked = self.back[element.from as usize]
-            + end.of(line.travel)
-            + self.onward[element.to as usize];
+        let walked = self.back.at(element.from) + end.of(line.travel) + self.onward.at(element.to);
         1 + end.of(line.flow_duration) + walked
     }
 
     /// The first element of the greatest rank.
     #[tactic(auto, using(crate::proofs::Standing::walkable_stands))]
     pub fn first_most(&self) -> Ranked
-        ensures most { FirstMost (ranks (timed_net self.now.network) self.now.back self.now.onward) (length self.now.network.elements.now) result.index result.rank }
+        ensures most { FirstMost (ranks (timed_net self.now.network) self.now.back.walks self.now.onward.walks) (length self.now.network.elements.now) result.index result.rank }
         ensures some { 0 < result.rank }
     {
         let mut most = Ranked { index: 0, rank: 0 };

@@ -13,7 +13,7 @@ pub loop-element-preserved : goal.loop-element-preserved
 loop-element-preserved c =
     let n = c.args.self.now.network in
     let w = c.args.self.now.way in
-    let reach = c.args.reach.now in
+    let reach = c.args.reach.now.walks in
     let z = zip_turn n.elements.now n.lines.now c.loop-element.yielded c.into_iter-element-iterator.result c.loop-element.element-iterator c.next.new.self _ (cc) (cc) c.loop-element.yielded_by _ c.in-Some.is c.next.ensures.steps in
     let x = z.2 no_element in
     let v = z.3 no_line in

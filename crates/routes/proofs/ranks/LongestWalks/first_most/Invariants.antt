@@ -5,7 +5,7 @@ use Rattle.routes.proofs.ranks.LongestWalks.first_most.Given as goal
 
 abbrev pub invariant-loop-index : goal.invariant-loop-index
 invariant-loop-index l =
-    let f = ranks (timed_net l.self.network) l.self.back l.self.onward in
+    let f = ranks (timed_net l.self.network) l.self.back.walks l.self.onward.walks in
     (0 < l.most.rank → l.most.index < length l.yielded)
     × (0 < l.most.rank → f l.most.index ≡ l.most.rank)
     × ((k : ℕ) → k < length l.yielded → f k ≤ l.most.rank)
