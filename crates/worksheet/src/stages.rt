@@ -30,7 +30,7 @@ fn write_departures<T: WalkingTables>(
     specific_flow: Ends,
     sheet: &mut [Line],
 )
-    requires before { Holds sharing.network.elements.now (worked (T.WalkingTables.meaning tables.now) sharing.network.elements.now (sharing.point - 1)) sheet.old }
+    requires { length sharing.network.elements.now ≤ length sheet.old }
     ensures { (x : Fraction) → sheet.new ≡ laid (departed (T.WalkingTables.meaning tables.now) sharing.entry.network.elements.now sharing.entry.point (around specific_flow x) sharing.entry.persons sheet.old) (length sharing.entry.network.elements.now) sheet.old }
 {
     let left_over = sharing.left_over();

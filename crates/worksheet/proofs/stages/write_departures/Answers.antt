@@ -18,8 +18,8 @@ loop-i-preserved g c x =
     let w' = around c.args.specific_flow x in
     elim c.if-element-sharing.branch [
       | then-element-sharing w ↦
-          w.sheet-is ∙ line_written t es l.sheet ys l.i (omega arith) c.requires.before.room s.point w' s.persons (l.invariant x)
+          w.sheet-is ∙ line_written t es l.sheet ys l.i (omega arith) c.requires s.point w' s.persons (l.invariant x)
           w.share-persons.result w.leaving_line.result w.if-element-sharing.true w.share-persons.ensures.value (w.leaving_line.ensures x)
       | else-element-sharing w ↦
-          w.sheet-is ∙ line_kept t es l.sheet ys l.i (omega arith) c.requires.before.room s.point w' s.persons (l.invariant x) w.if-element-sharing.false
+          w.sheet-is ∙ line_kept t es l.sheet ys l.i (omega arith) c.requires s.point w' s.persons (l.invariant x) w.if-element-sharing.false
     ]
