@@ -6,7 +6,7 @@ ghost use Rattle.curves.specs.Reading.{mega};
 ghost use Rattle.sheet.specs.Lines.{shown};
 ghost use Rattle.sheet.specs.Points.{last_entry, most, speed_at, cut, leaving};
 
-use super::curves::{billionths, walking_curve};
+use super::curve_numbers::{billionths, walking_curve};
 use super::{Passage, Passing};
 use exact::Ends;
 use reading::{flow_through, read_falling};

@@ -7,7 +7,7 @@ ghost use Rattle.sheet.specs.Shares.{width_out as width_leaving};
 use exact::Ends;
 use network::{Element, ReadyNetwork};
 
-mod curves;
+mod curve_numbers;
 mod leaving;
 mod lines;
 mod points;

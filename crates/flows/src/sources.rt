@@ -5,7 +5,7 @@ ghost use Rattle.network.specs.declared.Kind.TheVariants.{Corridor, Door};
 ghost use Rattle.sheet.specs.Lines.{shown};
 ghost use Rattle.sheet.specs.Sources.{row_speed as speed_of_row, first_speed as speed_at_start, empty_source as empty_line, full_source as full_line, source};
 
-use super::curves::{billionths, starting_curve};
+use super::curve_numbers::{billionths, starting_curve};
 use super::{Passage, Passing};
 use exact::Ends;
 use network::Kind;
