@@ -33,10 +33,11 @@ impl Ends {
         requires upper { F.pre formula self.upper }
         ensures { (f : Fraction → Fraction) → Computes (F.post formula) f → (x : Fraction) → result ≡ ends (falling f (around self x)) }
     {
-        Ends {
-            lower: formula(self.upper).lower,
-            upper: formula(self.lower).upper,
-        }
+        let crossed = Ends {
+            lower: self.upper,
+            upper: self.lower,
+        };
+        crossed.rising(formula)
     }
 
     /// The ends times a factor, over a divisor.
