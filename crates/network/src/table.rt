@@ -72,6 +72,7 @@ impl ElementTable {
     }
 
     /// Whether some element leaves the point.
+    // Beside `arrives`, each of one line: a function over which point to read would be longer, and longer to call.
     pub fn departs(&self, point: u8) -> bool
         ensures { result ≡ has_departures (listed self.now) point }
     {

@@ -10,6 +10,7 @@ use exact::Ends;
 use walking::WalkingTables;
 
 /// A column of a curve at a quantity in billionths, rounded down and up. Past the last row the last row stands.
+// The curve is a number, as rule books are asked: an enum would leave out numbers that have an answer.
 pub fn read_column<T: WalkingTables>(tables: &T, curve: u8, column: Column, quantity: u64) -> Ends
     ensures { result ≡ ends (rounded (read (values column) (curve_of (T.WalkingTables.meaning tables.now) curve) (whole quantity))) }
 {

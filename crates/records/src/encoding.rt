@@ -60,7 +60,7 @@ fn encode_element(draft: Draft) -> [u8; 16]
     ]
 }
 
-// One end of a finding: a tag, the byte beside it, and a time.
+// One end of a finding: a tag, the byte beside it, and a time. The tag is a number, as it is the first byte.
 #[tactic(auto, using(crate::proofs::BigEndian::eight_bytes))]
 fn encode_end(tag: u8, byte: u8, time: u64) -> [u8; 16]
     ensures { result ≡ tag ∷ byte ∷ 0 ∷ 0 ∷ (0 ∷ 0 ∷ 0 ∷ 0 ∷ bytes_of 8 time) }

@@ -8,6 +8,7 @@ use ways::End;
 /// A network as it is walked: its elements, the line of each, and which end of their times is added up.
 #[derive(Clone, Copy)]
 pub struct TimedNetwork<'a> {
+    // two slices of one length and no slice of pairs: the caller lends the lines, the study the elements
     pub elements: &'a [Element],
     pub lines: &'a [Line],
     pub end: End,

@@ -13,6 +13,7 @@ pub trait WalkingTables {
     ghost meaning: { Self → Tables };
 
     /// how many rows a curve has
+    // rows and row, and no slice of rows: a slower walk holds none, and makes each row as it is asked for
     fn rows(&self, curve: u8) -> usize
         ensures { result ≡ length (curve_of (meaning self.now) curve) };
 

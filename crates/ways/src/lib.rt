@@ -5,6 +5,8 @@ mod reads;
 
 pub use laws::routes_keep_their_laws;
 
+// Enums and no closures for ends and ways: the definitions of routes and walks name them, and so do the contracts.
+
 /// Which end of a worked quantity is read.
 #[derive(Clone, Copy, PartialEq, Eq, Debug)]
 pub enum End {

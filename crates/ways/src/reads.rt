@@ -18,6 +18,7 @@ impl End {
     }
 }
 
+// Two matches and no function over which field to read: each says in one line what a walk does at an element.
 impl Way {
     /// The point at which a walk enters an element.
     pub fn near(self, element: Element) -> u8
