@@ -1,11 +1,10 @@
 -- What a study keeps in its type is known as a fact that has no proof to show; here the proofs come back.
-use Rattle.std.proofs.Common.{◌≡◌, false, List, [], ◌∷◌, Some, None, Option, refl}
+use Rattle.std.proofs.Common.{◌≡◌, ℕ, false, List, [], ◌∷◌, Some, None, Option, refl, arith}
 use mathlib.Core.Logic.{∥∥₁_elim, ∥∥₁_map}
 use mathlib.Core.HLevel.{⊥_prop, Unit-prop, ×_prop}
 use mathlib.Core.Bool.{Bool-set}
 use native.Mathlib.Bridge.{le_prop}
 use Rattle.std.specs.List.{AllByRecursion}
-use Rattle.std.proofs.lemmas.Option.{none-some}
 use Rattle.network.specs.declared.CaseData.{CaseData}
 use Rattle.network.specs.declared.Element.{Element}
 use Rattle.network.specs.Sentences.{Sentence}
@@ -41,7 +40,10 @@ case_stands : (c : CaseData) → ∥ LawfulCase c ∥₁ → LawfulCase c
 case_stands c t = lawful_case c (∥∥₁_elim t (none_prop (case_sentences c)) (case_passes c))
 
 some_case : (o : Option CaseData) → ∥ ((c : CaseData) × (o ≡ Some c)) ∥₁ → (c : CaseData) × (o ≡ Some c)
-some_case None t = absurd (∥∥₁_elim t ⊥_prop (λ k. none-some k.0 k.1))
+some_case None t = absurd (∥∥₁_elim t ⊥_prop (λ k. none_some k.0 k.1))
+  where
+    none_some : (c : CaseData) → None ≡ Some c → ⊥
+    none_some c e = let z : ◌≡◌ {A = ℕ} 0 1 = cc in omega arith
 some_case (Some c) t = (c, refl)
 
 assessable_stands : (l : Ledger) → ∥ Assessable l ∥₁ → Assessable l
