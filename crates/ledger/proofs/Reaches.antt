@@ -20,18 +20,18 @@ use Rattle.ledger.specs.Reach.{Assessable, LawfulLedger, EveryRunIsLawful}
 
 pub stage_is : (s t : Stage) → not (same_stage s t) ≡ false → s ≡ t
 stage_is Open Open e = refl
-stage_is Open Closed e = let z : ◌≡◌ {A = ℕ} 0 1 = cc in absurd (omega arith)
-stage_is Closed Open e = let z : ◌≡◌ {A = ℕ} 0 1 = cc in absurd (omega arith)
+stage_is Open Closed e = absurd cc
+stage_is Closed Open e = absurd cc
 stage_is Closed Closed e = refl
 
 case_there : (o : Option CaseData) → not (is_some o) ≡ false → (c : CaseData) × (o ≡ Some c)
-case_there None e = let z : ◌≡◌ {A = ℕ} 0 1 = cc in absurd (omega arith)
+case_there None e = absurd cc
 case_there (Some c) e = (c, refl)
 
 module _ (l : Ledger) (ok : LawfulLedger l) where
   -- an open ledger has nothing to show of a closed one
   not_closed : (m : Ledger) → not (same_stage l.stage Open) ≡ false → l.stage ≡ Closed → Assessable m
-  not_closed m e q = let o = stage_is l.stage Open e in let z : ◌≡◌ {A = ℕ} 0 1 = cc in absurd (omega arith)
+  not_closed m e q = let o = stage_is l.stage Open e in absurd cc
 
   set_keeps : (c : CaseData) → NoneTrue (sentences l (setting c)) → LawfulLedger (done l (setting c))
   set_keeps c f = record {
@@ -89,7 +89,7 @@ module _ (l : Ledger) (ok : LawfulLedger l) where
     few = ok.few;
     elements_lawful = ok.elements_lawful;
     case_lawful = ok.case_lawful;
-    closed = λ e. let z : ◌≡◌ {A = ℕ} 0 1 = cc in absurd (omega arith);
+    closed = λ e. absurd cc;
   }
 
   done_lawful : (q : Request) → NoneTrue (sentences l q) → LawfulLedger (done l q)
@@ -109,8 +109,8 @@ pub new_lawful : LawfulLedger new_ledger
 new_lawful = record {
   few = omega arith;
   elements_lawful = tt;
-  case_lawful = λ c e. let z : ◌≡◌ {A = ℕ} 0 1 = cc in absurd (omega arith);
-  closed = λ e. let z : ◌≡◌ {A = ℕ} 0 1 = cc in absurd (omega arith);
+  case_lawful = λ c e. absurd cc;
+  closed = λ e. absurd cc;
 }
 
 pub every_run_is_lawful : EveryRunIsLawful
