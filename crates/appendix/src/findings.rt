@@ -28,6 +28,7 @@ fn assessed(study: &Study) -> Told {
     told(study.assess(&Circular, &mut lines))
 }
 
+// Each zone has a test of its own, whose name says what governs it.
 #[test]
 fn first_zone_is_governed_by_the_last_stair_up(rt: HostRuntime) {
     assert_eq!(rt;

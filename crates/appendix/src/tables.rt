@@ -34,6 +34,7 @@ fn check_rows(rt: &impl Abort, rows: &[Row], lines: &[Line]) -> Result<(), Fail>
     Ok(())
 }
 
+// Each zone has a test of its own, so that one can fail without the other.
 #[test]
 fn first_zone_rounds_to_the_printed_digits(rt: HostRuntime) -> Result<(), Fail> {
     let mut lines = [Line::default(); 45];
