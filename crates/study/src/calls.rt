@@ -58,9 +58,9 @@ impl Study {
         match self.stage {
             Stage::Closed => Err(Refusal::WrongStage),
             Stage::Open => {
-                let index = self.index_of(number)?;
+                let replaced = self.index_of(number)?;
                 let element = check_element(draft, number)?;
-                self.elements.replace(index, element);
+                self.elements.replace(replaced, element);
                 Ok(())
             }
         }
@@ -73,8 +73,8 @@ impl Study {
         match self.stage {
             Stage::Closed => Err(Refusal::WrongStage),
             Stage::Open => {
-                let index = self.index_of(number)?;
-                self.elements.remove(index);
+                let removed = self.index_of(number)?;
+                self.elements.remove(removed);
                 Ok(())
             }
         }

@@ -11,11 +11,11 @@ use Rattle.study.proofs.Study.alter.Goals as goal
 pub returns-in-Closed : goal.returns-in-Closed
 returns-in-Closed c = closed_refuses c.args.self.now (altering c.args.number c.args.draft) refl c.in-Closed.is
 
-pub returns-in_err-index-in-Open : goal.returns-in_err-index-in-Open
-returns-in_err-index-in-Open c =
+pub returns-in_err-replaced-in-Open : goal.returns-in_err-replaced-in-Open
+returns-in_err-replaced-in-Open c =
     let s = c.args.self.now in
     let n = c.args.number in
-    let e = altering_absent (ledger_of s) c.in-Open.is n c.args.draft _ _ c.in_err-index-in-Open.ensures.answered in
+    let e = altering_absent (ledger_of s) c.in-Open.is n c.args.draft _ _ c.in_err-replaced-in-Open.ensures.answered in
     refuses_with s (altering n c.args.draft) c.from_residual.result _ c.from_residual.ensures.1 e
 
 pub returns-in_err-element-in-Open : goal.returns-in_err-element-in-Open
@@ -23,7 +23,7 @@ returns-in_err-element-in-Open c =
     let s = c.args.self.now in
     let n = c.args.number in
     let d = c.args.draft in
-    let there = c.in_ok-index-in-Open.ensures.answered in
+    let there = c.in_ok-replaced-in-Open.ensures.answered in
     let y = c.in_err-element-in-Open.field-0.0 in
     let e = altering_answer (ledger_of s) c.in-Open.is n d _ there (refused (number_of y) (place_of y)) c.in_err-element-in-Open.ensures.answered in
     refuses_with s (altering n d) c.from_residual-in_err-element-in-Open.result _ c.from_residual-in_err-element-in-Open.ensures.1 e
@@ -33,7 +33,7 @@ invariant_of-self c =
     let s = c.args.self.now in
     let n = c.args.number in
     let d = c.args.draft in
-    let there = c.in_ok-index-in-Open.ensures.answered in
+    let there = c.in_ok-replaced-in-Open.ensures.answered in
     let passed = c.in_ok-element-in-Open.ensures.answered in
     let e = altering_answer (ledger_of s) c.in-Open.is n d _ there _ passed in
     record { lawful = stays_lawful s (altering n d) e _ (altered (ledger_of s) (listed c.replace.new.self) d n _ passed n _ there c.replace.ensures) }
@@ -43,7 +43,7 @@ returns-in_ok-element-in-Open c =
     let s = c.args.self.now in
     let n = c.args.number in
     let d = c.args.draft in
-    let there = c.in_ok-index-in-Open.ensures.answered in
+    let there = c.in_ok-replaced-in-Open.ensures.answered in
     let passed = c.in_ok-element-in-Open.ensures.answered in
     let e = altering_answer (ledger_of s) c.in-Open.is n d _ there _ passed in
     accepts s (altering n d) e _ (altered (ledger_of s) (listed c.replace.new.self) d n _ passed n _ there c.replace.ensures)

@@ -10,25 +10,25 @@ use Rattle.study.proofs.Study.strike.Goals as goal
 pub returns-in-Closed : goal.returns-in-Closed
 returns-in-Closed c = closed_refuses c.args.self.now (striking c.args.number) refl c.in-Closed.is
 
-pub returns-in_err-index-in-Open : goal.returns-in_err-index-in-Open
-returns-in_err-index-in-Open c =
+pub returns-in_err-removed-in-Open : goal.returns-in_err-removed-in-Open
+returns-in_err-removed-in-Open c =
     let s = c.args.self.now in
     let n = c.args.number in
-    let e = striking_answer (ledger_of s) c.in-Open.is n _ c.in_err-index-in-Open.ensures.answered in
+    let e = striking_answer (ledger_of s) c.in-Open.is n _ c.in_err-removed-in-Open.ensures.answered in
     refuses_with s (striking n) c.from_residual.result _ c.from_residual.ensures.1 e
 
 pub invariant_of-self : goal.invariant_of-self
 invariant_of-self c =
     let s = c.args.self.now in
     let n = c.args.number in
-    let there = c.in_ok-index-in-Open.ensures.answered in
+    let there = c.in_ok-removed-in-Open.ensures.answered in
     let e = striking_answer (ledger_of s) c.in-Open.is n _ there in
     record { lawful = stays_lawful s (striking n) e _ (struck (ledger_of s) (listed c.remove.new.self) n _ there c.remove.ensures) }
 
-pub returns-in_ok-index-in-Open : goal.returns-in_ok-index-in-Open
-returns-in_ok-index-in-Open c =
+pub returns-in_ok-removed-in-Open : goal.returns-in_ok-removed-in-Open
+returns-in_ok-removed-in-Open c =
     let s = c.args.self.now in
     let n = c.args.number in
-    let there = c.in_ok-index-in-Open.ensures.answered in
+    let there = c.in_ok-removed-in-Open.ensures.answered in
     let e = striking_answer (ledger_of s) c.in-Open.is n _ there in
     accepts s (striking n) e _ (struck (ledger_of s) (listed c.remove.new.self) n _ there c.remove.ensures)
