@@ -23,6 +23,7 @@ pub fn specific_flow(flow: Ends, width: u32) -> Ends
     flow.scaled(1000, width as u64)
 }
 
+// What is taken of a specific flow. The lesser number at each end: a formula passed to `rising` is no plainer.
 fn cut_to(greatest: u64, specific_flow: Ends) -> Ends
     ensures value { (x : Fraction) → result ≡ ends (cut greatest (around specific_flow x)) }
     ensures lower { result.lower ≤ greatest }
@@ -63,8 +64,8 @@ impl<T: WalkingTables> Passage<'_, T> {
         }
     }
 
-    /// The line of the element where so many persons leave a point by it, and the specific flow in is given. It is cut to
-    /// the greatest that the element takes, which means a queue.
+    /// The line of the element where so many persons leave a point by it, and the specific flow in is given. It is cut
+    /// to the greatest that the element takes, which means a queue.
     pub fn leaving_line(&self, specific_flow: Ends, persons: u32) -> Line
         requires few { persons ≤ 8000 }
         ensures { (x : Fraction) → result ≡ shown self.now.element.now (leaving (T.WalkingTables.meaning self.now.tables.now) self.now.element.now (around specific_flow x) persons) }

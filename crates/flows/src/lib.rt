@@ -43,8 +43,8 @@ pub struct Arrivals {
     pub persons: u32,
 }
 
-/// The persons who come to a point. The elements that leave it share them by their widths, and the width here is that of all
-/// these elements together.
+/// The persons who come to a point. The elements that leave it share them by their widths, and the width here is that
+/// of all these elements together.
 #[derive(Clone, Copy)]
 pub struct Sharing<'a> {
     pub network: ReadyNetwork<'a>,

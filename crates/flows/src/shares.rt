@@ -70,8 +70,8 @@ impl Sharing<'_> {
             .count()
     }
 
-    /// The persons of the element i: its whole part, and one more if fewer elements are served before it than persons are left
-    /// over.
+    /// The persons of the element i: its whole part, and one more if fewer elements are served before it than persons
+    /// are left over.
     pub fn share(&self, left_over: u32, i: usize) -> u32
         requires left { left_over ≡ persons_left_over self.now.network.elements.now self.now.point self.now.persons }
         requires within { i < length self.now.network.elements.now }

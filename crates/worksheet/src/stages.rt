@@ -34,6 +34,7 @@ fn write_departures<T: WalkingTables>(
     ensures { (x : Fraction) → sheet.new ≡ laid (departed (T.WalkingTables.meaning tables.now) sharing.entry.network.elements.now sharing.entry.point (around specific_flow x) sharing.entry.persons sheet.old) (length sharing.entry.network.elements.now) sheet.old }
 {
     let left_over = sharing.left_over();
+    // by index: of what a zip with iter_mut writes, a proof learns nothing
     for (i, element) in sharing.network.elements.iter().enumerate() {
         if element.from == sharing.point {
             let persons = sharing.share(left_over, i);
@@ -81,6 +82,7 @@ impl<T: WalkingTables> Filling<'_, '_, T> {
         requires { length self.now.network.elements.now ≤ length sheet.old }
         ensures { sheet.new ≡ lines (T.WalkingTables.meaning self.now.tables.now) self.now.network.elements.now ++ drop (length self.now.network.elements.now) sheet.old }
     {
+        // by index: of what a zip with iter_mut writes, a proof learns nothing
         for (i, element) in self.network.elements.iter().enumerate() {
             let passage = Passage {
                 tables: self.tables,

@@ -33,8 +33,8 @@ pub fn clear_lines(count: usize, sheet: &mut [Line])
 }
 
 impl<T: WalkingTables> Filling<'_, '_, T> {
-    /// The worksheet of the network, unless a flow is thin: then the first such element refuses it, and the lines of the
-    /// elements are zeros.
+    /// The worksheet of the network, unless a flow is thin: then the first such element refuses it, and the lines of
+    /// the elements are zeros.
     pub fn work_out(&self, sheet: &mut [Line]) -> Result<(), Refusal>
         requires { length self.now.network.elements.now ≤ length sheet.old }
         ensures answered { told result ≡ first_true (thin_sentences (T.WalkingTables.meaning self.now.tables.now) self.now.network.elements.now) tt }
