@@ -10,6 +10,7 @@ use zones::{FIRST_ZONE, SECOND_ZONE};
 // A finding, or the number and the place of a refusal.
 type Told = Result<Finding, (u8, u32)>;
 
+// As the tests of calls have it: a crate for both would be longer.
 fn told(found: Result<Finding, Refusal>) -> Told {
     found.map_err(|refusal| (refusal.number(), refusal.place()))
 }
@@ -143,8 +144,8 @@ fn lines_past_the_elements_are_left_alone(rt: HostRuntime) {
     assert_eq!(rt; lines[21].persons, 7);
 }
 
-// One person in 100 m of a corridor 10 m wide has a flow of 13,000,000 billionths; each of two equal doors gets half, and
-// the first the person.
+// One person in 100 m of a corridor 10 m wide has a flow of 13,000,000 billionths; each of two equal doors gets half,
+// and the first the person.
 #[test]
 fn thin_flow_is_refused_and_clears_the_lines(rt: HostRuntime) {
     let wide = Draft {

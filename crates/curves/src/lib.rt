@@ -3,7 +3,7 @@
 ghost use Rattle.curves.specs.Laws.{DensityReadsAmid, AcrossEncloses, SpeedFalls, SpeedFallsSlowly, FallingEncloses, SpeedsInRange, ColumnsInRange};
 
 /// A column of a curve that is read at its entries.
-// An enum and no closure: contracts name the column by its definition.
+// An enum and no closure: the contract of a reading says which column is read, and a closure could be any function.
 #[derive(Clone, Copy, PartialEq, Eq, Debug)]
 pub enum Column {
     Flow,

@@ -9,6 +9,7 @@ ghost use Rattle.sheet.specs.Points.{last_entry, most, speed_at, cut, leaving};
 use super::curve_numbers::{billionths, walking_curve};
 use super::{Passage, Passing};
 use exact::Ends;
+use network::Kind;
 use reading::{flow_through, read_falling};
 use sheet::Line;
 use walking::WalkingTables;
@@ -35,48 +36,49 @@ fn cut_to(greatest: u64, specific_flow: Ends) -> Ends
     }
 }
 
+// The last entry of a curve, in billionths.
+fn last_entry<T: WalkingTables>(tables: &T, curve: u8) -> u64
+    ensures { result ≡ last_entry (curve_of (T.WalkingTables.meaning tables.now) curve) * mega }
+{
+    let last = tables.rows(curve) - 1;
+    billionths(tables.row(curve, last).0)
+}
+
+// The greatest specific flow that an element of a kind takes.
+fn greatest_flow<T: WalkingTables>(tables: &T, kind: Kind) -> u64
+    ensures { result ≡ most (T.WalkingTables.meaning tables.now) kind }
+{
+    match walking_curve(kind) {
+        Some(curve) => last_entry(tables, curve),
+        None => billionths(tables.door_flow()),
+    }
+}
+
+// The speed at a specific flow; a door has none.
+fn speed_of<T: WalkingTables>(tables: &T, kind: Kind, specific_flow: Ends) -> Ends
+    ensures { (x : Fraction) → result ≡ ends (speed_at (T.WalkingTables.meaning tables.now) kind (around specific_flow x)) }
+{
+    match walking_curve(kind) {
+        Some(curve) => read_falling(tables, curve, specific_flow),
+        None => Ends::default(),
+    }
+}
+
 impl<T: WalkingTables> Passage<'_, T> {
-    // The last entry of a curve, in billionths.
-    fn last_entry(&self, curve: u8) -> u64
-        ensures { result ≡ last_entry (curve_of (T.WalkingTables.meaning self.now.tables.now) curve) * mega }
-    {
-        let last = self.tables.rows(curve) - 1;
-        billionths(self.tables.row(curve, last).0)
-    }
-
-    // The greatest specific flow that the element takes.
-    fn greatest_flow(&self) -> u64
-        ensures { result ≡ most (T.WalkingTables.meaning self.now.tables.now) self.now.element.now.kind }
-    {
-        match walking_curve(self.element.kind) {
-            Some(curve) => self.last_entry(curve),
-            None => billionths(self.tables.door_flow()),
-        }
-    }
-
-    // The speed at a specific flow; a door has none.
-    fn speed(&self, specific_flow: Ends) -> Ends
-        ensures { (x : Fraction) → result ≡ ends (speed_at (T.WalkingTables.meaning self.now.tables.now) self.now.element.now.kind (around specific_flow x)) }
-    {
-        match walking_curve(self.element.kind) {
-            Some(curve) => read_falling(self.tables, curve, specific_flow),
-            None => Ends::default(),
-        }
-    }
-
     /// The line of the element where so many persons leave a point by it, and the specific flow in is given. It is cut
     /// to the greatest that the element takes, which means a queue.
     pub fn leaving_line(&self, specific_flow: Ends, persons: u32) -> Line
         requires few { persons ≤ 8000 }
         ensures { (x : Fraction) → result ≡ shown self.now.element.now (leaving (T.WalkingTables.meaning self.now.tables.now) self.now.element.now (around specific_flow x) persons) }
     {
-        let greatest = self.greatest_flow();
+        let greatest = greatest_flow(self.tables, self.element.kind);
         let taken = cut_to(greatest, specific_flow);
-        self.line(Passing {
+        let passing = Passing {
             persons,
             queue: specific_flow.upper > greatest,
             flow: flow_through(self.element.width, taken),
-            speed: self.speed(taken),
-        })
+            speed: speed_of(self.tables, self.element.kind, taken),
+        };
+        passing.line(self.element)
     }
 }

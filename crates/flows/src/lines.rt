@@ -1,11 +1,11 @@
-ghost use Rattle.std.specs.Prelude.{◌≡◌, ◌*◌, ◌^◌, if◌then◌else◌, nat_eq};
+ghost use Rattle.std.specs.Prelude.{◌≡◌, ◌*◌, ◌^◌, ◌≤◌, if◌then◌else◌, nat_eq};
 ghost use Rattle.exact.specs.Fractions.{Fraction, whole, over};
 ghost use Rattle.exact.specs.Worked.{ends, around, exactly, rounded, falling};
 ghost use Rattle.sheet.specs.Lines.{shown, walk};
 
-use super::{Passage, Passing};
+use super::Passing;
 use exact::{Ends, Quotient};
-use network::Kind;
+use network::{Element, Kind};
 use sheet::Line;
 
 // How long an amount takes at a rate, rounded both ways; no time where the rate is 0.
@@ -29,6 +29,19 @@ fn time_between(amount: u64, rate: Ends) -> Ends
     rate.falling(|rate| time_at(amount, rate))
 }
 
+// How long a walk over a length takes; a door has no way to walk.
+fn walk_time(kind: Kind, length: u32, speed: Ends) -> Ends
+    requires { length ≤ 100000 }
+    ensures { (x : Fraction) → result ≡ ends (walk kind length (around speed x)) }
+{
+    match kind {
+        Kind::Door => Ends::default(),
+        Kind::Corridor | Kind::StairDown | Kind::StairUp => {
+            time_between(length as u64 * 1_000_000_000_000, speed)
+        }
+    }
+}
+
 impl Passing {
     // How long it takes until all have passed; nobody takes no time.
     fn passing_time(&self) -> Ends
@@ -39,42 +52,30 @@ impl Passing {
         }
         time_between(self.persons as u64 * 1_000_000_000_000_000, self.flow)
     }
-}
-
-impl<T> Passage<'_, T> {
-    // How long a walk from end to end takes; a door has no way to walk.
-    fn walk_time(&self, speed: Ends) -> Ends
-        ensures { (x : Fraction) → result ≡ ends (walk self.now.element.now.kind self.now.element.now.length (around speed x)) }
-    {
-        match self.element.kind {
-            Kind::Door => Ends::default(),
-            Kind::Corridor | Kind::StairDown | Kind::StairUp => {
-                time_between(self.element.length as u64 * 1_000_000_000_000, speed)
-            }
-        }
-    }
 
     // How long one of those who pass walks; nobody takes no time.
-    fn travel_time(&self, passing: Passing) -> Ends
-        ensures { (x : Fraction) → result ≡ ends (if nat_eq passing.persons 0 then exactly 0 else walk self.now.element.now.kind self.now.element.now.length (around passing.speed x)) }
+    fn travel_time(&self, element: &Element) -> Ends
+        requires { element.now.length ≤ 100000 }
+        ensures { (x : Fraction) → result ≡ ends (if nat_eq self.now.persons 0 then exactly 0 else walk element.now.kind element.now.length (around self.now.speed x)) }
     {
-        if passing.persons == 0 {
+        if self.persons == 0 {
             return Ends::default();
         }
-        self.walk_time(passing.speed)
+        walk_time(element.kind, element.length, self.speed)
     }
 
-    // The line of the element with what passes it.
-    pub(crate) fn line(&self, passing: Passing) -> Line
-        ensures { (x y : Fraction) → result ≡ shown self.now.element.now (record { persons = passing.persons; queue = passing.queue; flow = around passing.flow x; speed = around passing.speed y }) }
+    // The line of an element that they pass.
+    pub(crate) fn line(&self, element: &Element) -> Line
+        requires { element.now.length ≤ 100000 }
+        ensures { (x y : Fraction) → result ≡ shown element.now (record { persons = self.now.persons; queue = self.now.queue; flow = around self.now.flow x; speed = around self.now.speed y }) }
     {
         Line {
-            persons: passing.persons,
-            queue: passing.queue,
-            flow: passing.flow,
-            speed: passing.speed,
-            flow_duration: passing.passing_time(),
-            travel: self.travel_time(passing),
+            persons: self.persons,
+            queue: self.queue,
+            flow: self.flow,
+            speed: self.speed,
+            flow_duration: self.passing_time(),
+            travel: self.travel_time(element),
         }
     }
 }

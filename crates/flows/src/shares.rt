@@ -7,6 +7,7 @@ use super::Sharing;
 use network::{Element, ReadyNetwork};
 
 /// The width of all that leaves a point.
+// The filter of these elements stands here and twice below: a function cannot hand out a chain yet.
 pub fn width_out(network: ReadyNetwork<'_>, point: u8) -> u32
     ensures { result ≡ width_leaving network.entry.elements.now point }
 {

@@ -13,34 +13,35 @@ use reading::{SourceCorridor, flow_through};
 use sheet::Line;
 use walking::WalkingTables;
 
+// The speed of row 0 of a curve.
+fn row_speed<T: WalkingTables>(tables: &T, curve: u8) -> Ends
+    ensures { result ≡ ends (speed_of_row (curve_of (T.WalkingTables.meaning tables.now) curve)) }
+{
+    Ends::exactly(billionths(tables.row(curve, 0).2))
+}
+
+// The speed of a source without persons.
+fn first_speed<T: WalkingTables>(tables: &T, kind: Kind) -> Ends
+    ensures { result ≡ ends (speed_at_start (T.WalkingTables.meaning tables.now) kind) }
+{
+    match starting_curve(kind) {
+        Some(curve) => row_speed(tables, curve),
+        None => Ends::default(),
+    }
+}
+
 impl<T: WalkingTables> Passage<'_, T> {
-    // The speed of row 0 of a curve.
-    fn row_speed(&self, curve: u8) -> Ends
-        ensures { result ≡ ends (speed_of_row (curve_of (T.WalkingTables.meaning self.now.tables.now) curve)) }
-    {
-        Ends::exactly(billionths(self.tables.row(curve, 0).2))
-    }
-
-    // The speed of a source without persons.
-    fn first_speed(&self) -> Ends
-        ensures { result ≡ ends (speed_at_start (T.WalkingTables.meaning self.now.tables.now) self.now.element.now.kind) }
-    {
-        match starting_curve(self.element.kind) {
-            Some(curve) => self.row_speed(curve),
-            None => Ends::default(),
-        }
-    }
-
     // A source where nobody starts.
     fn empty_source(&self) -> Line
         ensures { result ≡ shown self.now.element.now (empty_line (T.WalkingTables.meaning self.now.tables.now) self.now.element.now) }
     {
-        self.line(Passing {
+        let passing = Passing {
             persons: 0,
             queue: false,
             flow: Ends::default(),
-            speed: self.first_speed(),
-        })
+            speed: first_speed(self.tables, self.element.kind),
+        };
+        passing.line(self.element)
     }
 
     // Persons who stand in a corridor: flow and speed are those of their density.
@@ -54,12 +55,13 @@ impl<T: WalkingTables> Passage<'_, T> {
             length: self.element.length,
         };
         let figures = corridor.figures(self.tables);
-        self.line(Passing {
+        let passing = Passing {
             persons: self.element.persons,
             queue: false,
             flow: figures.flow,
             speed: figures.speed,
-        })
+        };
+        passing.line(self.element)
     }
 
     // Persons behind a door: they pass it at the door flow.
@@ -67,12 +69,13 @@ impl<T: WalkingTables> Passage<'_, T> {
         ensures { result ≡ shown self.now.element.now (full_line (T.WalkingTables.meaning self.now.tables.now) Door self.now.element.now) }
     {
         let specific_flow = Ends::exactly(billionths(self.tables.door_flow()));
-        self.line(Passing {
+        let passing = Passing {
             persons: self.element.persons,
             queue: false,
             flow: flow_through(self.element.width, specific_flow),
             speed: Ends::default(),
-        })
+        };
+        passing.line(self.element)
     }
 
     // A source with persons, by its kind; in a stair nobody starts.

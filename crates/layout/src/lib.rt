@@ -10,6 +10,7 @@ use verdicts::Verdict;
 pub struct Opening {
     pub case_data: CaseData,
     pub number: u32,
+    // as the record has it: the elements themselves are the records that follow
     pub count: u16,
 }
 

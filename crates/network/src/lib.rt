@@ -31,7 +31,7 @@ pub struct UnknownKind(pub u8);
 pub struct Draft {
     // a byte and no Kind: nothing is checked yet, and every byte that a caller or a file gives needs a place
     pub kind: u8,
-    // 0 for a source and for the station, and no Option: a caller or a file gives one byte, and any byte
+    // bytes and no Option: a caller or a file gives 0 for a source and for the station, and may give any byte
     pub from: u8,
     pub to: u8,
     pub width: u32,
@@ -43,7 +43,7 @@ pub struct Draft {
 #[derive(Clone, Copy, Debug, Default, PartialEq, Eq)]
 pub struct Element {
     pub kind: Kind,
-    // the draft's bytes, 0 among them: the rules and the records of files read source and station as number 0
+    // the draft's bytes: the definitions, and the tables of walks by point, read source and station as point 0
     pub from: u8,
     pub to: u8,
     pub width: u32,
@@ -84,6 +84,7 @@ pub enum Refusal {
     /// there are more than 8,000 persons, or some in a stair or behind a point
     WrongPersons(u32),
     /// case (1), ship kind (2), zones (3) or embarkation (4) is out of its range
+    // a number and no enum of items: by the rules a place is a number
     CaseDataOutOfRange(u32),
     /// there is no case data yet
     CaseNotSet,

@@ -7,7 +7,7 @@ use std::fmt;
 
 impl Refusal {
     /// The number that the refusal is listed under, from 1.
-    /// A match and no cast: variants that hold a place have no number of their own.
+    // A method and no cast or `From`: variants that hold a place have no number of their own, and a refusal two numbers.
     pub fn number(&self) -> u8
         ensures { result ≡ number_of self.now }
     {
@@ -35,7 +35,7 @@ impl Refusal {
     }
 
     /// The element, item, point or record that is wrong; 0 where the refusal names none.
-    /// A number and no Option: callers and files are told two numbers of every refusal.
+    // A number and no Option: by the rules every refusal is told as a number and a place, which is 0 where it has none.
     pub fn place(&self) -> u32
         ensures { result ≡ place_of self.now }
     {

@@ -10,15 +10,15 @@ use exact::Ends;
 use walking::WalkingTables;
 
 /// A column of a curve at a quantity in billionths, rounded down and up. Past the last row the last row stands.
-// The curve is a number, as rule books are asked: an enum would leave out numbers that have an answer.
+// The curve is a number beside the tables, as rule books are asked: an enum would leave out numbers that have an answer.
 pub fn read_column<T: WalkingTables>(tables: &T, curve: u8, column: Column, quantity: u64) -> Ends
     ensures { result ≡ ends (rounded (read (values column) (curve_of (T.WalkingTables.meaning tables.now) curve) (whole quantity))) }
 {
     parts::find_part(tables, curve, quantity).read(column, quantity)
 }
 
-/// A column of curve 1 between two ends of the density: the smaller reading rounded down, the greater rounded up. Curve 1
-/// may rise and fall, so neither end of the density gives the smaller one by itself.
+/// A column of curve 1 between two ends of the density: the smaller reading rounded down, the greater rounded up.
+/// Curve 1 may rise and fall, so neither end of the density gives the smaller one by itself.
 pub fn read_across<T: WalkingTables>(tables: &T, column: Column, density: Ends) -> Ends
     ensures { (x : Fraction) → result ≡ ends (across (values column) (T.WalkingTables.meaning tables.now).density (around density x)) }
 {

@@ -20,7 +20,7 @@ pub(crate) fn find_part<T: WalkingTables>(tables: &T, curve: u8, quantity: u64) 
     ensures { Found (curve_of (T.WalkingTables.meaning tables.now) curve) quantity result }
 {
     let mut before = tables.row(curve, 0);
-    // by number, since a rule book answers rows and lends none
+    // over row numbers: a rule book answers one row at a time, and has no slice to go over
     for i in 1..tables.rows(curve) {
         let row = tables.row(curve, i);
         if quantity <= row.0 as u64 * 1_000_000 {

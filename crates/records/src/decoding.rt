@@ -8,7 +8,8 @@ use network::{CaseData, Draft};
 use verdicts::Verdict;
 
 /// What the bytes of a record say; none where they are not sixteen or break the layout.
-// A function and no `TryFrom`: records stand with their laws in a crate below, which no change here proves again.
+// A function and no `TryFrom`: that could stand only in the crate of `Record`, whose laws each edit here would prove
+// again.
 #[tactic(auto, unfolding(layout::specs::Records::decode))]
 pub fn decode(bytes: &[u8]) -> Option<Record>
     ensures { result ≡ decode_of bytes.now }

@@ -7,7 +7,7 @@ use layout::{Opening, Record};
 use network::Draft;
 
 /// The sixteen bytes of a record.
-// A function and no `From`: records stand with their laws in a crate below, which no change here proves again.
+// A function and no `From`: that could stand only in the crate of `Record`, whose laws each edit here would prove again.
 #[tactic(auto, unfolding(layout::specs::Records::encode))]
 pub fn encode(record: Record) -> [u8; 16]
     ensures { result ≡ encode_of «record» }

@@ -32,7 +32,7 @@ impl<'a> Pass<'a> {
     }
 
     // The longest walk from p by any element.
-    // A loop and no `map` with `max`: the proof did not close that each pair which the closure is given keeps the bounds.
+    // A loop and no `map` with `max`: tried, and the proof did not close that each pair keeps the bounds.
     #[tactic(auto, using(crate::proofs::Standing::walkable_stands))]
     fn longest_at(&self, reach: &Reach, p: u8) -> u64
         ensures { result ≡ longest_from self.now.way (timed_net self.now.network) reach.now.walks p }

@@ -20,7 +20,7 @@ pub struct LongestWalks<'a> {
 }
 
 /// The first element of the greatest rank.
-#[derive(Clone, Copy)]
+#[derive(Clone, Copy, Debug, PartialEq, Eq)]
 pub struct Ranked {
     pub index: usize,
     pub rank: u64,
@@ -71,6 +71,7 @@ impl<'a> LongestWalks<'a> {
         ensures some { 0 < result.rank }
     {
         let mut most = Ranked { index: 0, rank: 0 };
+        // a loop: the library's `max_by_key` would give the last of equals, and the first governs
         let lines = self.network.lines;
         for (index, (element, line)) in self.network.elements.iter().zip(lines).enumerate() {
             let rank = self.rank_of(*element, *line);

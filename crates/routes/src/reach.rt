@@ -1,7 +1,9 @@
 ghost use Rattle.std.specs.Prelude.{◌≡◌, ◌≤◌, replicate, slice_index, slice_set};
 ghost use Rattle.ways.specs.Walks.{Low};
 
-/// The longest walk from each point, as far as it is known: a table indexed by the point, since it needs no heap.
+/// The longest walk from each point, as far as it is known.
+// A fixed table indexed by the point, 0 to 64: no heap is taken, so that no call can run out of memory. The bound of a
+// point stays a clause: elements hold points as bytes, which a type of points would wrap and unwrap at each use.
 #[derive(Drop)]
 pub struct Reach {
     walks: [u64; 65],
@@ -21,7 +23,7 @@ impl Reach {
         ensures walk { result ≡ slice_index self.now.walks point }
         ensures low { result ≤ 6400000000000000000 }
     {
-        self.walks[point as usize]
+        self.walks[usize::from(point)]
     }
 
     pub fn set(&mut self, point: u8, walk: u64)

@@ -28,6 +28,7 @@ pub enum Call<'a, B> {
 /// The study of one ship: its case data, its elements, and whether both are settled.
 #[derive(Drop)]
 pub struct Study {
+    // the stage beside the case data, and no enum of stages that holds it: an open study may have case data too
     stage: Stage,
     case: Option<CaseData>,
     elements: ElementTable,

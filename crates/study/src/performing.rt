@@ -21,7 +21,7 @@ impl Study {
         ensures reachable { EveryRunIsLawful }
         ensures sound { EveryRunIsSound }
     {
-        // one match on both, though each call asks the stage itself: every pair of the two has its arm here
+        // a match on both together, though each call asks the stage itself: a rule of the project
         match (self.stage, call) {
             (Stage::Open, Call::Set(data)) => self.set(data).map(|()| None),
             (Stage::Open, Call::Enter(draft)) => self.enter(draft).map(|()| None),

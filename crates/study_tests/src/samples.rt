@@ -58,7 +58,8 @@ pub fn width(study: &Study, number: u32) -> Option<u32> {
     study.element(number).map(|element| element.width)
 }
 
-// What a call answered, with a refusal by its number and place.
+// What a call answered, with a refusal by its number and place, as the rules list them. The tests of findings have the
+// same three lines: a crate for both would be longer.
 pub fn told(answer: Result<(), Refusal>) -> Result<(), (u8, u32)> {
     answer.map_err(|refusal| (refusal.number(), refusal.place()))
 }

@@ -34,13 +34,10 @@ pub fn run(rt: &HostRuntime, study: &mut Study) -> io::Result<()> {
 
 // Enters all elements, as many as there are.
 fn enter_zone(rt: &HostRuntime, study: &mut Study) -> io::Result<()> {
-    let mut accepted = 0u32;
-    // a loop and no filter with count: each turn alters the study
-    for draft in &SECOND_ZONE {
-        if study.enter(*draft).is_ok() {
-            accepted = accepted.saturating_add(1);
-        }
-    }
+    let accepted = SECOND_ZONE
+        .iter()
+        .filter(|draft| study.enter(**draft).is_ok())
+        .count();
     println!(rt; "  enter {accepted} elements: accepted")
 }
 

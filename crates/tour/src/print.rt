@@ -9,6 +9,7 @@ use walking::{RuleBook, WalkingTables};
 // The rows of all four curves, and the door flow.
 pub fn tables<T: WalkingTables>(rt: &HostRuntime, tables: &T) -> io::Result<()> {
     for curve in 1..5u8 {
+        // over row numbers: a rule book answers one row at a time
         for i in 0..tables.rows(curve) {
             let (entry, flow, speed) = tables.row(curve, i);
             println!(rt; "  curve {curve}, row {i}: entry {entry}, flow {flow}, speed {speed}")?;
@@ -33,6 +34,7 @@ pub fn rules<B: RuleBook>(rt: &HostRuntime, book: &B) -> io::Result<()> {
     Ok(())
 }
 
+// Field by field, here and for lines: each has a name and a unit of its own in what the tour shows.
 pub fn figures(rt: &HostRuntime, figures: SourceFigures) -> io::Result<()> {
     let SourceFigures {
         density,

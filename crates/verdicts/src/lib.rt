@@ -19,11 +19,12 @@ pub enum Verdict {
 }
 
 /// A number that no verdict has.
+// A type of its own beside the error of kinds: a caller's `From` tells them apart.
 #[derive(Clone, Copy, Debug, PartialEq, Eq)]
 pub struct UnknownVerdict(pub u8);
 
-/// What a study is found to be: the verdict, both ends of the slowest escape route's time in microseconds, and the number of
-/// the element that governs it.
+/// What a study is found to be: the verdict, both ends of the slowest escape route's time in microseconds, and the
+/// number of the element that governs it.
 #[derive(Clone, Copy, Debug, PartialEq, Eq)]
 pub struct Finding {
     pub verdict: Verdict,

@@ -32,7 +32,7 @@ fn curve_rows(curve: u8) -> &'static [Row]
 }
 
 /// The circular's own tables and rules.
-#[derive(Clone, Copy, Debug)]
+#[derive(Clone, Copy, Debug, PartialEq, Eq)]
 pub struct Circular;
 
 impl WalkingTables for Circular {

@@ -3,7 +3,8 @@ ghost use Rattle.walking.specs.Curves.{Tables, curve_of, row_of};
 ghost use Rattle.walking.specs.Laws.{Lawful};
 ghost use Rattle.walking.specs.Rules.{Rules, InRange, response_of, factor_of, limit_of};
 
-/// Entry, flow and speed of a curve, in thousandths. A plain tuple: what every rule book answers with.
+/// Entry, flow and speed of a curve, in thousandths. By the rules every rule book answers a row as a tuple of three
+/// numbers.
 pub type Row = (u32, u32, u32);
 
 /// Four curves of walking and a door flow. Curve 1 is by density, curves 2 to 4, for corridors, stairs down and

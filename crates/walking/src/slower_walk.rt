@@ -8,7 +8,7 @@ use super::{Row, RuleBook, WalkingTables};
 
 /// A rule book with each speed taken times a per mille, rounded down and lifted to at least 100; the rest is that of
 /// the rule book below. A per mille above 1,000 counts as 1,000.
-#[derive(Clone, Copy, Drop)]
+#[derive(Clone, Copy, Debug, Drop, PartialEq, Eq)]
 pub struct SlowerWalk<B> {
     pub below: B,
     pub per_mille: u32,

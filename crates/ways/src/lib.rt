@@ -5,7 +5,7 @@ mod reads;
 
 pub use laws::routes_keep_their_laws;
 
-// Enums and no closures for ends and ways: the definitions of routes and walks name them, and so do the contracts.
+// Enums and no closures for ends and ways: contracts say which end or way is meant, and a closure could be any function.
 
 /// Which end of a worked quantity is read.
 #[derive(Clone, Copy, PartialEq, Eq, Debug)]

@@ -18,7 +18,7 @@ impl End {
     }
 }
 
-// Two matches and no function over which field to read: each says in one line what a walk does at an element.
+// Matches of two arms, as `End::of` has one, and no function over which field to read: a call of that would be longer.
 impl Way {
     /// The point at which a walk enters an element.
     pub fn near(self, element: Element) -> u8

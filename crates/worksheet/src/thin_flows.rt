@@ -25,6 +25,7 @@ pub fn first_thin(sheet: &[Line]) -> Option<u32>
 }
 
 /// Sets the first lines to zeros.
+// The count beside the sheet, and no shorter sheet: the promise says that lines beyond are not touched.
 pub fn clear_lines(count: usize, sheet: &mut [Line])
     requires { count ≤ length sheet.old }
     ensures { sheet.new ≡ replicate count no_line ++ drop count sheet.old }
