@@ -8,7 +8,8 @@ use exact::{Ends, Quotient};
 use network::{Element, Kind};
 use sheet::Line;
 
-// How long an amount takes at a rate, rounded both ways; no time where the rate is 0.
+// How long an amount takes at a rate, rounded both ways; no time where the rate is 0. No time is 0 and no Option: so the
+// rules have it, and so the division of the definitions.
 fn time_at(amount: u64, rate: u64) -> Ends
     ensures { result ≡ ends (rounded (over amount (whole rate))) }
 {
@@ -53,7 +54,8 @@ impl Passing {
         time_between(self.persons as u64 * 1_000_000_000_000_000, self.flow)
     }
 
-    // How long one of those who pass walks; nobody takes no time.
+    // How long one of those who pass walks; nobody takes no time. The test stands here and above, as each time by itself
+    // is 0 where nobody passes.
     fn travel_time(&self, element: &Element) -> Ends
         requires { element.now.length ≤ 100000 }
         ensures { (x : Fraction) → result ≡ ends (if nat_eq self.now.persons 0 then exactly 0 else walk element.now.kind element.now.length (around self.now.speed x)) }

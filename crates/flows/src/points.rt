@@ -14,7 +14,7 @@ pub fn arrivals_at(elements: &[Element], sheet: &[Line], point: u8) -> Arrivals
     let mut lower = 0;
     let mut upper = 0;
     let mut persons = 0;
-    // a loop, as a rule of the project asks here; one walk adds up three numbers
+    // a loop over two slices, as a rule of the project asks here: the lines are lent apart from the elements
     for (element, line) in elements.iter().zip(sheet) {
         if element.to == point {
             lower += line.flow.lower;

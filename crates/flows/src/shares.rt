@@ -34,7 +34,7 @@ impl Sharing<'_> {
         self.persons as u64 * element.width as u64 / self.width as u64
     }
 
-    // What is left of that division.
+    // What is left of that division. Beside `part`, each of one line: a pair of both would be taken apart at each call.
     fn remainder(&self, element: &Element) -> u64
         ensures { result ≡ self.now.persons * element.now.width % self.now.width }
     {

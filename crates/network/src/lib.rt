@@ -21,6 +21,7 @@ pub enum Kind {
 }
 
 /// A number that names no kind.
+// Verdicts have an error of their own: where `?` turns either into an error of the caller's, the type says which it was.
 #[derive(Clone, Copy, Debug, PartialEq, Eq)]
 pub struct UnknownKind(pub u8);
 

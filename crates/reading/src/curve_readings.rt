@@ -22,6 +22,7 @@ pub fn read_column<T: WalkingTables>(tables: &T, curve: u8, column: Column, quan
 pub fn read_across<T: WalkingTables>(tables: &T, column: Column, density: Ends) -> Ends
     ensures { (x : Fraction) → result ≡ ends (across (values column) (T.WalkingTables.meaning tables.now).density (around density x)) }
 {
+    // the curve by density, by its number, as rule books are asked
     let at_lower = read_column(tables, 1, column, density.lower);
     let at_upper = read_column(tables, 1, column, density.upper);
     Ends {
@@ -31,6 +32,7 @@ pub fn read_across<T: WalkingTables>(tables: &T, column: Column, density: Ends) 
 }
 
 /// The speed of curve 2, 3 or 4 between two ends of the specific flow, its lower end at the upper one.
+// The curve by its number, as in `read_column`.
 pub fn read_falling<T: WalkingTables>(tables: &T, curve: u8, specific_flow: Ends) -> Ends
     ensures { (x : Fraction) → result ≡ ends (falling (curve_of (T.WalkingTables.meaning tables.now) curve) (around specific_flow x)) }
 {

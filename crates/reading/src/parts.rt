@@ -16,6 +16,7 @@ pub(crate) enum Part {
     Past(Row),
 }
 
+// The curve by its number, as in `read_column`.
 pub(crate) fn find_part<T: WalkingTables>(tables: &T, curve: u8, quantity: u64) -> Part
     ensures { Found (curve_of (T.WalkingTables.meaning tables.now) curve) quantity result }
 {

@@ -25,6 +25,8 @@ pub struct RouteEnds {
     pub governing: u8,
 }
 
+// Here and below two slices: the caller lends the lines, the study the elements.
+
 // The element that governs by one end, with a rank of one more than the time of the slowest used route.
 fn find_governing(elements: &[Element], lines: &[Line], end: End) -> Ranked
     requires worked { SomeWorkedOut elements.now lines.now }

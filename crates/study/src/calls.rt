@@ -6,7 +6,7 @@ ghost use Rattle.study.specs.Studies.{ledger_of, told_done, FollowsLedger};
 use super::*;
 use network::{check_case, check_element};
 
-// Each call matches on the stage in place, as a rule of the project asks.
+// Each call matches on the stage in place, as a rule of the project asks (docs/DECISIONS.md, Studies).
 impl Study {
     /// An open study without a case and without elements.
     pub fn new() -> Study

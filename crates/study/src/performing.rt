@@ -21,7 +21,8 @@ impl Study {
         ensures reachable { EveryRunIsLawful }
         ensures sound { EveryRunIsSound }
     {
-        // a match on both together, though each call asks the stage itself: a rule of the project
+        // a match on both together, though each call asks the stage itself: a rule of the
+        // project (docs/DECISIONS.md, Studies)
         match (self.stage, call) {
             (Stage::Open, Call::Set(data)) => self.set(data).map(|()| None),
             (Stage::Open, Call::Enter(draft)) => self.enter(draft).map(|()| None),

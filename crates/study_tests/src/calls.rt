@@ -62,7 +62,8 @@ fn at_most_128_elements(rt: HostRuntime) {
     assert_eq!(rt; study.elements().len(), 128);
 }
 
-// What closing answers, with case data set and these elements entered.
+// What closing answers, with case data set and these elements entered. The tests of findings enter them so too: a crate
+// for both would be longer.
 fn closing(drafts: &[Draft]) -> Result<(), (u8, u32)> {
     let mut study = Study::new();
     let _ = study.set(CASE);

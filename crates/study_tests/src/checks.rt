@@ -71,7 +71,7 @@ fn elements(rt: HostRuntime) {
         let mut study = Study::new();
         let refused = told(study.enter(draft)).err();
         assert_eq!(rt; refused, refusal.map(|number| (number, 1)));
-        assert_eq!(rt; study.count(), if refusal.is_none() { 1 } else { 0 });
+        assert_eq!(rt; study.count(), usize::from(refusal.is_none()));
     }
 }
 

@@ -36,7 +36,8 @@ pub fn run(rt: &HostRuntime, study: &mut Study) -> io::Result<()> {
 fn enter_zone(rt: &HostRuntime, study: &mut Study) -> io::Result<()> {
     let accepted = SECOND_ZONE
         .iter()
-        .filter(|draft| study.enter(**draft).is_ok())
+        .map(|draft| study.enter(*draft))
+        .filter(|entered| entered.is_ok())
         .count();
     println!(rt; "  enter {accepted} elements: accepted")
 }

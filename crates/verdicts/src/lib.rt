@@ -19,7 +19,7 @@ pub enum Verdict {
 }
 
 /// A number that no verdict has.
-// A type of its own beside the error of kinds: a caller's `From` tells them apart.
+// Not the error of kinds for both: where `?` turns either into an error of the caller's, the type says which it was.
 #[derive(Clone, Copy, Debug, PartialEq, Eq)]
 pub struct UnknownVerdict(pub u8);
 
