@@ -1,20 +1,16 @@
 -- The sums over what comes to a point and what leaves it, as chains and loops meet them.
-use Rattle.std.proofs.Common.{◌≡◌, ℕ, zero, suc, ◌+◌, ◌*◌, ◌<◌, ◌≤◌, Bool, true, false, cond, List, [], ◌∷◌, length, get_or, sym, refl, ap, ◌∙◌, arith}
+use Rattle.std.proofs.Common.{◌≡◌, ℕ, suc, ◌+◌, ◌*◌, ◌<◌, ◌≤◌, Bool, true, false, cond, List, [], ◌∷◌, length, get_or, sym, refl, ap, ◌∙◌, arith}
 use Rattle.std.specs.List.{filter, sum_by, enumerate_from}
 use Rattle.std.proofs.lemmas.List.Sums.{sum_by-cons}
 use Rattle.exact.specs.Sums.{sum_below, sum_where, count_where}
 use Rattle.exact.proofs.SumLaws.{where_le, where_mono, sum_same}
+use Rattle.network.proofs.Counts.{sum_first}
 
 -- few small numbers have a small sum
 pub where_small : (t : ℕ → Bool) (f : ℕ → ℕ) (m n i : ℕ) → ((k : ℕ) → k < i → t k ≡ true → f k ≤ m) → i ≤ n → sum_where i t f ≤ n * m
 where_small t f m n i h few = omega (arith, where_mono i t f (λ _. m) h, where_le t (λ _. m) m n i (λ _. omega arith) few)
 
--- the sum of a chain that chooses: from the front of the list, and from its end
-sum_first : (n : ℕ) (f : ℕ → ℕ) → sum_below (suc n) f ≡ f 0 + sum_below n (λ i. f (suc i))
-unfolding sum_below
-sum_first zero f = omega arith
-sum_first (suc n) f = omega (arith, sum_first n f)
-
+-- the sum of a chain that chooses, which goes from the front of the list, is the sum by index
 module _ {A : Type 0} (p : A → Bool) (f : A → ℕ) where
   one_chosen : (b : Bool) (x : A) (xs : List A) → sum_by f (cond b (x ∷ xs) xs) ≡ cond b (f x) 0 + sum_by f xs
   one_chosen true x xs = sum_by-cons f x xs

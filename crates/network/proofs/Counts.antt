@@ -7,7 +7,7 @@ use Rattle.exact.proofs.SumLaws.{sum_none}
 use Rattle.network.specs.declared.Element.{Element}
 use Rattle.network.specs.Elements.{el, any_below}
 
-sum_first : (n : ℕ) (f : ℕ → ℕ) → sum_below (suc n) f ≡ f 0 + sum_below n (λ i. f (suc i))
+pub sum_first : (n : ℕ) (f : ℕ → ℕ) → sum_below (suc n) f ≡ f 0 + sum_below n (λ i. f (suc i))
 unfolding sum_below
 sum_first zero f = omega arith
 sum_first (suc n) f = omega (arith, sum_first n f)

@@ -1,3 +1,4 @@
 pub mod Following
 pub mod Writing
 pub mod Assessments
+pub mod Numbered

@@ -3,9 +3,9 @@ use Rattle.network.specs.Refusals.{refused, number_of, place_of}
 use Rattle.network.specs.Tables.{listed}
 use Rattle.study.specs.Studies.{ledger_of}
 use Rattle.ledger.specs.Ledger.{altering}
-use Rattle.study.proofs.Following.{closed_refuses, refuses_with, accepts, stays_lawful}
+use Rattle.study.proofs.Following.{closed_refuses, refuses_with}
 use Rattle.ledger.proofs.Answering.{altering_absent, altering_answer}
-use Rattle.study.proofs.Writing.{altered}
+use Rattle.study.proofs.Numbered.{alters}
 use Rattle.study.proofs.Study.alter.Goals as goal
 
 pub returns-in-Closed : goal.returns-in-Closed
@@ -30,20 +30,10 @@ returns-in_err-element-in-Open c =
 
 pub invariant_of-self : goal.invariant_of-self
 invariant_of-self c =
-    let s = c.args.self.now in
-    let n = c.args.number in
-    let d = c.args.draft in
-    let there = c.in_ok-replaced-in-Open.ensures.answered in
-    let passed = c.in_ok-element-in-Open.ensures.answered in
-    let e = altering_answer (ledger_of s) c.in-Open.is n d _ there _ passed in
-    record { lawful = stays_lawful s (altering n d) e _ (altered (ledger_of s) (listed c.replace.new.self) d n _ passed n _ there c.replace.ensures) }
+    record {
+      lawful = (alters c.args.self.now c.in-Open.is c.args.number _ c.in_ok-replaced-in-Open.ensures.answered c.args.draft _ c.in_ok-element-in-Open.ensures.answered (listed c.replace.new.self) c.replace.ensures).0;
+    }
 
 pub returns-in_ok-element-in-Open : goal.returns-in_ok-element-in-Open
 returns-in_ok-element-in-Open c =
-    let s = c.args.self.now in
-    let n = c.args.number in
-    let d = c.args.draft in
-    let there = c.in_ok-replaced-in-Open.ensures.answered in
-    let passed = c.in_ok-element-in-Open.ensures.answered in
-    let e = altering_answer (ledger_of s) c.in-Open.is n d _ there _ passed in
-    accepts s (altering n d) e _ (altered (ledger_of s) (listed c.replace.new.self) d n _ passed n _ there c.replace.ensures)
+    (alters c.args.self.now c.in-Open.is c.args.number _ c.in_ok-replaced-in-Open.ensures.answered c.args.draft _ c.in_ok-element-in-Open.ensures.answered (listed c.replace.new.self) c.replace.ensures).1 _ refl

@@ -2,9 +2,9 @@ use Rattle.std.proofs.Common.{refl}
 use Rattle.network.specs.Tables.{listed}
 use Rattle.study.specs.Studies.{ledger_of}
 use Rattle.ledger.specs.Ledger.{striking}
-use Rattle.study.proofs.Following.{closed_refuses, refuses_with, accepts, stays_lawful}
+use Rattle.study.proofs.Following.{closed_refuses, refuses_with}
 use Rattle.ledger.proofs.Answering.{striking_answer}
-use Rattle.study.proofs.Writing.{struck}
+use Rattle.study.proofs.Numbered.{strikes}
 use Rattle.study.proofs.Study.strike.Goals as goal
 
 pub returns-in-Closed : goal.returns-in-Closed
@@ -19,16 +19,8 @@ returns-in_err-removed-in-Open c =
 
 pub invariant_of-self : goal.invariant_of-self
 invariant_of-self c =
-    let s = c.args.self.now in
-    let n = c.args.number in
-    let there = c.in_ok-removed-in-Open.ensures.answered in
-    let e = striking_answer (ledger_of s) c.in-Open.is n _ there in
-    record { lawful = stays_lawful s (striking n) e _ (struck (ledger_of s) (listed c.remove.new.self) n _ there c.remove.ensures) }
+    record { lawful = (strikes c.args.self.now c.in-Open.is c.args.number _ c.in_ok-removed-in-Open.ensures.answered (listed c.remove.new.self) c.remove.ensures).0 }
 
 pub returns-in_ok-removed-in-Open : goal.returns-in_ok-removed-in-Open
 returns-in_ok-removed-in-Open c =
-    let s = c.args.self.now in
-    let n = c.args.number in
-    let there = c.in_ok-removed-in-Open.ensures.answered in
-    let e = striking_answer (ledger_of s) c.in-Open.is n _ there in
-    accepts s (striking n) e _ (struck (ledger_of s) (listed c.remove.new.self) n _ there c.remove.ensures)
+    (strikes c.args.self.now c.in-Open.is c.args.number _ c.in_ok-removed-in-Open.ensures.answered (listed c.remove.new.self) c.remove.ensures).1 _ refl
