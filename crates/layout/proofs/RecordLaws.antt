@@ -119,15 +119,18 @@ module _ (tag a b c : ℕ) (rest : List ℕ) (small : (k : ℕ) → get_or rest 
   by_tag x false false false false p q r s e = absurd (none-some x e)
 
 -- four bytes alone say nothing
-none_of_four : (tag a b c : ℕ) (x : Record) → decode_by tag a b c [] ≡ Some x → ⊥
-none_of_four tag a b c x e = grind arith
+pub none_of_four : (tag a b c : ℕ) → decode_by tag a b c [] ≡ None
+none_of_four tag a b c = grind arith
+
+too_short : (tag a b c : ℕ) (x : Record) → decode_by tag a b c [] ≡ Some x → ⊥
+too_short tag a b c x e = none-some x (sym (none_of_four tag a b c) ∙ e)
 
 long : (bs : List ℕ) (x : Record) → decode bs ≡ Some x → get_or bs 0 0 ∷ get_or bs 1 0 ∷ get_or bs 2 0 ∷ get_or bs 3 0 ∷ drop 4 bs ≡ bs
 unfolding decode
-long [] x e = absurd (none_of_four 0 0 0 0 x e)
-long (t ∷ []) x e = absurd (none_of_four t 0 0 0 x e)
-long (t ∷ a ∷ []) x e = absurd (none_of_four t a 0 0 x e)
-long (t ∷ a ∷ b ∷ []) x e = absurd (none_of_four t a b 0 x e)
+long [] x e = absurd (too_short 0 0 0 0 x e)
+long (t ∷ []) x e = absurd (too_short t 0 0 0 x e)
+long (t ∷ a ∷ []) x e = absurd (too_short t a 0 0 x e)
+long (t ∷ a ∷ b ∷ []) x e = absurd (too_short t a b 0 x e)
 long (t ∷ a ∷ b ∷ c ∷ rest) x e = refl
 
 pub encoding_undoes_decoding : EncodingUndoesDecoding

@@ -53,12 +53,15 @@ module _ (es : List Element) where
   unfolding point_sentences
   first_loose p lo hi before here = first_from 1 64 p lo (omega arith) before here
 
-  points_pass : ((p : ℕ) → 1 ≤ p → p ≤ 64 → loose es p ≡ false) → NoneTrue (point_sentences es)
+  none_refuses : ((p : ℕ) → 1 ≤ p → p ≤ 64 → loose es p ≡ false) → NoneTrue (point_sentences es)
   unfolding point_sentences
-  points_pass h = none_from 1 64 (λ q lo hi. h q lo (omega arith))
+  none_refuses h = none_from 1 64 (λ q lo hi. h q lo (omega arith))
+
+  pub points_pass : Tied es → NoneTrue (point_sentences es)
+  points_pass t = none_refuses (λ p lo hi. not_differ _ _ (t p lo hi))
 
   pub none_loose : ((p : ℕ) → 1 ≤ p → p ≤ 64 → loose es p ≡ false) → ◌≡◌ {A = Answer (Unit {0})} (accepted tt) (first_true (point_sentences es) tt)
-  none_loose h = all_passed (point_sentences es) tt (points_pass h)
+  none_loose h = all_passed (point_sentences es) tt (none_refuses h)
 
   pub tied_by : ((p : ℕ) → 1 ≤ p → p ≤ 64 → loose es p ≡ false) → Tied es
   tied_by h p lo hi = same_of _ _ (h p lo hi)

@@ -1,5 +1,7 @@
 #![tactic(auto)]
 
+ghost use Rattle.std.specs.Prelude.{◌≤◌, length};
+
 mod checks;
 mod kinds;
 mod ready;
@@ -113,4 +115,5 @@ pub enum Refusal {
 #[derive(Drop)]
 pub struct ElementTable {
     elements: ArrayVec<Element, 128>,
+    ghost fits: { length elements.items ≤ 128 },
 }
