@@ -1,17 +1,18 @@
 -- The whole parts of the shares.
 use Rattle.std.proofs.Common.{◌≡◌, ℕ, ◌+◌, ◌-◌, ◌*◌, ◌/◌, ◌%◌, ◌^◌, ◌<◌, ◌≤◌, Bool, cond, ◌&&◌, ◌||◌, eqb, ltb, List, length, sym, ap, ◌∙◌, arith}
-use Rattle.std.specs.List.{filter, sum_by, enumerate_from}
+use Rattle.std.specs.List.{sum_by, enumerate_from}
 use Rattle.std.proofs.lemmas.Bool.{lt-ltb, le-ltb, cond-true, cond-false}
 use Rattle.exact.specs.Sums.{sum_where, count_where}
 use Rattle.exact.proofs.SumLaws.{where_mono}
 use Rattle.network.specs.declared.Element.{Element}
 use Rattle.network.specs.Elements.{el, leaves, no_element}
 use Rattle.network.specs.Ready.{Ready}
+use Rattle.network.proofs.Counts.{sum_of_each}
 use Rattle.network.proofs.Readiness.{lawful_at}
 use Rattle.network.proofs.Standing.{ready_stands}
 use Rattle.sheet.specs.Shares.{width_out, part, remainder, before, left_over, share}
 use Rattle.sheet.proofs.ShareLaws.{shares_all}
-use Rattle.flows.proofs.PointSums.{where_small, sum_chosen, count_chosen}
+use Rattle.flows.proofs.PointSums.{where_small, ones_chosen}
 
 module _ (es : List Element) (p n i : ℕ) (s r : ℕ) (all : s ≡ width_out es p) where
   pub part_by : r ≡ n * (el es i).width / s → r ≡ part es p n i
@@ -26,19 +27,16 @@ module _ (es : List Element) (p n : ℕ) where
   unfolding share
   parts_le some = omega (arith, where_mono (length es) (leaves es p) (part es p n) (share es p n) (λ i l h. omega arith), shares_all es p n some)
 
--- what the elements that leave a point have together: their widths, and their whole parts
+-- what the elements that leave a point have together: their widths, and their whole parts; any other has none
 module _ (es : List Element) (p : ℕ) where
-  abbrev pub leaves_at : Element → Bool
-  leaves_at e = eqb e.from p
-
   abbrev pub wide : Element → ℕ
-  wide e = e.width
+  wide e = cond (eqb e.from p) e.width 0
 
-  pub width_all : sum_by wide (filter leaves_at es) ≡ width_out es p
+  pub width_all : sum_by wide es ≡ width_out es p
   unfolding width_out
-  width_all = sum_chosen leaves_at wide no_element es
+  width_all = sym (sum_of_each wide es)
 
-  pub width_fits : ∥ Ready es ∥₁ → sum_by wide (filter leaves_at es) < 2 ^ 32
+  pub width_fits : ∥ Ready es ∥₁ → sum_by wide es < 2 ^ 32
   unfolding width_out
   width_fits kept =
       let ready = ready_stands kept in
@@ -46,30 +44,36 @@ module _ (es : List Element) (p : ℕ) where
 
   module _ (n s : ℕ) (all : s ≡ width_out es p) (some : 0 < s) where
     abbrev pub part_of : Element → ℕ
-    part_of e = n * e.width / s
+    part_of e = cond (eqb e.from p) (n * e.width / s) 0
 
-    pub parts_all : sum_by part_of (filter leaves_at es) ≡ sum_where (length es) (leaves es p) (part es p n)
-    parts_all = sum_chosen leaves_at part_of no_element es ∙ ap (λ q. sum_where (length es) (leaves es p) (λ i. n * (el es i).width / q)) all
+    pub parts_all : sum_by part_of es ≡ sum_where (length es) (leaves es p) (part es p n)
+    parts_all = sym (sum_of_each part_of es) ∙ ap (λ q. sum_where (length es) (leaves es p) (λ i. n * (el es i).width / q)) all
 
-    pub given_le : sum_by part_of (filter leaves_at es) ≤ n
+    pub given_le : sum_by part_of es ≤ n
     given_le = omega (arith, parts_all, parts_le es p n (omega arith))
 
-    pub left_by : (given : ℕ) → given ≡ sum_by part_of (filter leaves_at es) → n - given ≡ left_over es p n
+    pub left_by : (given : ℕ) → given ≡ sum_by part_of es → n - given ≡ left_over es p n
     unfolding left_over
     left_by given h = ap (λ k. n - k) (h ∙ parts_all)
 
 -- who is served before the element i, whose remainder is own
 module _ (es : List Element) (p n i : ℕ) (s own : ℕ) (all : s ≡ width_out es p) (mine : own ≡ n * (el es i).width % s) where
-  abbrev pub served_first : ℕ × Element → Bool
+  abbrev served_first : ℕ × Element → Bool
   served_first q = eqb q.1.from p && (ltb own (n * q.1.width % s) || (eqb own (n * q.1.width % s) && ltb q.0 i))
 
-  pub ranked : length (filter served_first (enumerate_from 0 es)) ≡ count_where (length es) (before es p n i)
+  abbrev pub served_one : ℕ × Element → ℕ
+  served_one q = cond (served_first q) 1 0
+
+  pub ranked : sum_by served_one (enumerate_from 0 es) ≡ count_where (length es) (before es p n i)
   unfolding before
   ranked =
       let earlier : ℕ → ℕ → ℕ → Bool = λ a b j. eqb (el es j).from p && (ltb a b || (eqb a b && ltb j i)) in
-      count_chosen served_first no_element (before es p n i) es
+      ones_chosen served_first no_element (before es p n i) es
       (λ j. ap (λ a. earlier a (n * (el es j).width % s) j) (remainder_by es p n i s own all mine)
       ∙ ap (λ q. earlier (remainder es p n i) (n * (el es j).width % q) j) all)
+
+  pub ranks_fit : ∥ Ready es ∥₁ → sum_by served_one (enumerate_from 0 es) < 2 ^ 64
+  ranks_fit kept = omega (arith, ranked, where_small (before es p n i) (λ _. 1) 1 128 (length es) (λ k l _. omega arith) (ready_stands kept).few)
 
 -- the share, by the part r and how many the code counts before i
 module _ (es : List Element) (p n i : ℕ) (s r left count : ℕ) (all : s ≡ width_out es p) (whole : r ≡ n * (el es i).width / s)

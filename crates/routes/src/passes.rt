@@ -24,7 +24,7 @@ impl<'a> Pass<'a> {
         requires travel { end_of self.now.network.end line.travel ≤ 100000000000000000 }
         ensures { result ≡ gain reach.now.walks line.persons (end_of self.now.network.end line.travel) (near_point self.now.way element.from element.to) (far_point self.now.way element.from element.to) p }
     {
-        if line.persons > 0 && self.way.near(element) == p {
+        if self.way.near(element) == p && line.persons > 0 {
             reach.at(self.way.far(element)) + self.network.end.of(line.travel)
         } else {
             0
@@ -45,6 +45,7 @@ impl<'a> Pass<'a> {
     }
 
     /// The longest walks from all points, each found from those of the points that it leads to.
+    #[inline]
     pub fn longest_walks(&self) -> Reach
         ensures { Reaches self.now.way (timed_net self.now.network) result.walks }
     {

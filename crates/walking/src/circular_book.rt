@@ -46,7 +46,10 @@ impl WalkingTables for Circular {
 
     fn row(&self, curve: u8, i: usize) -> Row {
         let rows = curve_rows(curve);
-        rows[i.min(rows.len() - 1)]
+        match rows.get(i) {
+            Some(row) => *row,
+            None => rows[rows.len() - 1],
+        }
     }
 
     fn door_flow(&self) -> u32 {

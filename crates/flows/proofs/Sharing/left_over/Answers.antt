@@ -1,8 +1,8 @@
 use Rattle.std.proofs.Common.{◌≡◌, ◌<◌, ◌^◌, arith, rules, tests}
-use Rattle.std.specs.List.{filter, sum_by}
+use Rattle.std.specs.List.{sum_by}
 use Rattle.std.proofs.lemmas.Iterator.{YieldsList-from_slice, YieldsList-from_map}
-use Rattle.std.proofs.lemmas.Iterator.Consumers.{YieldsList-at, YieldsList-from_filter, sum_by_from_yields_List, fits_by_from_yields_list}
-use Rattle.flows.proofs.ShareParts.{leaves_at, part_of, given_le, left_by}
+use Rattle.std.proofs.lemmas.Iterator.Consumers.{sum_by_from_yields_List, fits_by_from_yields_list}
+use Rattle.flows.proofs.ShareParts.{part_of, given_le, left_by}
 use Rattle.flows.proofs.Sharing.left_over.Goals as goal
 
 pub sum-given-requires-clause-fits : goal.sum-given-requires-clause-fits
@@ -11,20 +11,20 @@ sum-given-requires-clause-fits c =
     let es = s.network.elements.now in
     let p = s.point in
     let part = part_of es p s.persons s.width s.all s.some in
-    let small : sum_by part (filter (leaves_at es p) es) < 2 ^ 64 = omega (arith, given_le es p s.persons s.width s.all s.some, s.few) in
-    fits_by_from_yields_list part (filter (leaves_at es p) es) c.map.result (2 ^ 64)
-    (YieldsList-from_map _ part (YieldsList-at c.map.ensures.source (YieldsList-from_filter _ (leaves_at es p) (YieldsList-from_slice es cc) c.filter.ensures.closure (λ x r q k. search (rules, tests)))) c.map.ensures.closure (λ x r q k. search (rules, tests)))
+    let small : sum_by part es < 2 ^ 64 = omega (arith, given_le es p s.persons s.width s.all s.some, s.few) in
+    fits_by_from_yields_list part es c.map.result (2 ^ 64)
+    (YieldsList-from_map _ part (YieldsList-from_slice es cc) c.map.ensures.closure (λ x r q k. search (rules, tests)))
     small
 
 -- the whole parts that the chain adds up
-given : (c : goal.After-sum-given) → c.sum-given.result ≡ sum_by (part_of c.args.self.now.network.elements.now c.args.self.now.point c.args.self.now.persons c.args.self.now.width c.args.self.now.all c.args.self.now.some) (filter (leaves_at c.args.self.now.network.elements.now c.args.self.now.point) c.args.self.now.network.elements.now)
+given : (c : goal.After-sum-given) → c.sum-given.result ≡ sum_by (part_of c.args.self.now.network.elements.now c.args.self.now.point c.args.self.now.persons c.args.self.now.width c.args.self.now.all c.args.self.now.some) c.args.self.now.network.elements.now
 given c =
     let s = c.args.self.now in
     let es = s.network.elements.now in
     let p = s.point in
     let part = part_of es p s.persons s.width s.all s.some in
-    sum_by_from_yields_List part (filter (leaves_at es p) es) c.map.result c.sum-given.result c.sum-given.ensures.ran
-    (YieldsList-from_map _ part (YieldsList-at c.map.ensures.source (YieldsList-from_filter _ (leaves_at es p) (YieldsList-from_slice es cc) c.filter.ensures.closure (λ x r q k. search (rules, tests)))) c.map.ensures.closure (λ x r q k. search (rules, tests)))
+    sum_by_from_yields_List part es c.map.result c.sum-given.result c.sum-given.ensures.ran
+    (YieldsList-from_map _ part (YieldsList-from_slice es cc) c.map.ensures.closure (λ x r q k. search (rules, tests)))
 
 pub overflow_cast-result : goal.overflow_cast-result
 overflow_cast-result c =
