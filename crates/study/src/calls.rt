@@ -109,7 +109,7 @@ impl Study {
             Stage::Open => Err(Refusal::WrongStage),
             Stage::Closed => {
                 self.stage = Stage::Open;
-                Ok(())
+                Ok(()) // whatever the study holds
             }
         }
     }
